@@ -1,0 +1,48 @@
+-- FIPS 180-4, 6.2: the digest of a message; and document 01's answer for a lent one.
+use Prim.Native.Nat.{ℕ, zero, suc, _+_, _*_, _/_}
+use mathlib.Core.Bool.{cond}
+use mathlib.Core.List.{List, _++_}
+use mathlib.Core.Path.{_≡_}
+use lib.Dec.{leb}
+use lib.ListN.{length, replicate}
+use Rattle.sha256.specs.Constants.{initial}
+use Rattle.sha256.specs.Message.{bytes, padTo, pad, N, M}
+use Rattle.sha256.specs.Rounds.{compress}
+use Rattle.sha256.specs.declared.Answer.{Answer}
+use Rattle.sha256.specs.declared.hash.Hash.{Hash}
+
+-- 6.2.2: the hash value after the first i blocks of p, from the hash value s
+unfoldable pub hashed : Hash → List ℕ → ℕ → Hash
+hashed s p zero = s
+hashed s p (suc i) = compress (M p i) (hashed s p i)
+
+-- 6.2.2, after step 4: H₀ ‖ H₁ ‖ .. ‖ H₇
+abbrev pub toBytes : Hash → List ℕ
+toBytes s =
+    bytes 4 (s .a) ++ bytes 4 (s .b) ++ bytes 4 (s .c) ++ bytes 4 (s .d) ++ bytes 4 (s .e) ++ bytes 4 (s .f) ++ bytes 4 (s .g) ++ bytes 4 (s .h)
+
+unfoldable pub digest : List ℕ → List ℕ
+digest m = toBytes (hashed initial (pad m) (length (pad m) / 64))
+
+-- Document 01, number 12: over 4,294,967,295 bytes.
+abbrev pub longest : ℕ
+longest = 4294967295
+
+abbrev pub given : List ℕ → Answer
+given d = record { number = 0; bytes = d }
+
+abbrev pub refused : Answer
+refused = record { number = 12; bytes = replicate 32 0 }
+
+-- what a digest of the message m answers
+unfoldable pub answer : List ℕ → Answer
+answer m = cond (leb (length m) longest) (given (digest m)) refused
+
+-- what it answers where k blocks before m have already led to the hash value s
+unfoldable pub answerAfter : Hash → ℕ → List ℕ → Answer
+answerAfter s k m = cond (leb (64 * k + length m) longest) (given (toBytes (hashed s (padTo (64 * k + length m) m) (N (length m))))) refused
+
+-- Handing the hash value on: what proofs/Pieces.antt shows of a message that begins with the k whole blocks p.
+pub record HandedOn (p : List ℕ) (k : ℕ) : Type 0 where
+  pub onward : (s : Hash) (q : List ℕ) (j : ℕ) → hashed s (p ++ q) (k + j) ≡ hashed (hashed s p k) q j
+  pub finished : (m : List ℕ) → answerAfter (hashed initial p k) k m ≡ answer (p ++ m)
