@@ -5,7 +5,7 @@
 #include <string.h>
 #include <ucontext.h>
 
-enum { ROOM = 64 * 1024, PAINT = 0xa5, MOST = 1024 };
+enum { ROOM = 64 * 1024, PAINT = 0xa5, MOST = 768 };
 
 static uint8_t stack[ROOM] __attribute__((aligned(64)));
 static uint8_t message[1000];

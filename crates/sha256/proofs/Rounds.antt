@@ -9,8 +9,8 @@ use native.Mathlib.Omega.{arith}
 use lib.ListN.{getD, set, length, length-set}
 use lib.Seq.{getD-set-same, getD-set-other}
 use borrow.Author.Tests.{lt-ltb, le-ltb}
-use Rattle.sha256.specs.Constants.{K, fourFrom}
-use Rattle.sha256.specs.Ring.{ringWord, Turned}
+use Rattle.sha256.specs.Constants.{K}
+use Rattle.sha256.specs.Ring.{fourFrom, ringWord, Turned}
 use Rattle.sha256.specs.Rounds.{rounds, plus, compress}
 use Rattle.sha256.specs.Schedule.{W}
 use Rattle.sha256.specs.declared.hash.Hash.{Hash}
@@ -67,13 +67,13 @@ module _ {m : List ℕ} {h : Hash} where
       }
 
   pub four-more : {t : ℕ} {k : Four} {w w₁ w₂ w₃ w₄ : List ℕ} {s s₁ s₂ s₃ s₄ : Hash} (t′ : ℕ) → t′ ≡ t + 4 → Done m h t w s → k ≡ fourFrom t
-      → Turned (k .k0) t w s w₁ s₁ → Turned (k .k1) (t + 1) w₁ s₁ w₂ s₂ → Turned (k .k2) (t + 2) w₂ s₂ w₃ s₃ → Turned (k .k3) (t + 3) w₃ s₃ w₄ s₄
+      → Turned (k .0) t w s w₁ s₁ → Turned (k .1) (t + 1) w₁ s₁ w₂ s₂ → Turned (k .2) (t + 2) w₂ s₂ w₃ s₃ → Turned (k .3) (t + 3) w₃ s₃ w₄ s₄
       → Done m h t′ w₄ s₄
   four-more {t} t′ n d e e₀ e₁ e₂ e₃ =
-      let d₁ = one-more (t + 1) (omega arith) d (ap (λ (k : Four). k .k0) e) e₀ in
-      let d₂ = one-more (t + 2) (omega arith) d₁ (ap (λ (k : Four). k .k1) e) e₁ in
-      let d₃ = one-more (t + 3) (omega arith) d₂ (ap (λ (k : Four). k .k2) e) e₂ in
-      one-more t′ (omega arith) d₃ (ap (λ (k : Four). k .k3) e) e₃
+      let d₁ = one-more (t + 1) (omega arith) d (ap (λ (k : Four). k .0) e) e₀ in
+      let d₂ = one-more (t + 2) (omega arith) d₁ (ap (λ (k : Four). k .1) e) e₁ in
+      let d₃ = one-more (t + 3) (omega arith) d₂ (ap (λ (k : Four). k .2) e) e₂ in
+      one-more t′ (omega arith) d₃ (ap (λ (k : Four). k .3) e) e₃
 
   pub all : {t : ℕ} {w : List ℕ} {s r : Hash} → t ≡ 64 → Done m h t w s → r ≡ plus s h → r ≡ compress m h
   unfolding compress

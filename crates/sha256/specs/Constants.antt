@@ -1,10 +1,10 @@
 -- FIPS 180-4, 4.2.2 and 5.3.3: the constants of the rounds, and the initial hash value.
-use Prim.Native.Nat.{ℕ, _+_}
+use Prim.Native.Nat.{ℕ}
 use mathlib.Core.List.{List, [], _∷_}
 use lib.ListN.{getD}
 use Rattle.sha256.specs.declared.hash.Hash.{Hash}
-use Rattle.sha256.specs.declared.schedule.Four.{Four}
 
+-- 4.2.2; that they follow FIPS's rule, with primes and cube roots, is shown in the crate sha256_vectors
 unfoldable pub constants : List ℕ
 constants =
     0x428a2f98 ∷ 0x71374491 ∷ 0xb5c0fbcf ∷ 0xe9b5dba5 ∷ 0x3956c25b ∷ 0x59f111f1 ∷ 0x923f82a4 ∷ 0xab1c5ed5
@@ -18,10 +18,6 @@ constants =
 
 abbrev pub K : ℕ → ℕ
 K t = getD constants t 0
-
--- the constants of the four rounds from t on, as the code hands them out
-abbrev pub fourFrom : ℕ → Four
-fourFrom t = record { k0 = K t; k1 = K (t + 1); k2 = K (t + 2); k3 = K (t + 3) }
 
 -- 5.3.3
 abbrev pub initial : Hash

@@ -8,7 +8,8 @@ abbrev pub bytes : ℕ → ℕ → List ℕ
 bytes zero x = []
 bytes (suc k) x = x / 2 ^ (8 * k) % 256 ∷ bytes k x
 
--- 5.1.1: the zero bytes behind the byte 80: the least z for which n + 1 + z is 56 modulo 64, in bits l + 1 + k ≡ 448 mod 512 (proofs/Padding.antt, zeros-rule)
+-- 5.1.1: how many zero bytes follow the byte 80: the least z for which n + 1 + z is 56 modulo 64 (in FIPS's bits, l + 1 + k ≡ 448 mod 512);
+-- shown by zeros-rule in proofs/Padding.antt
 abbrev pub zeros : ℕ → ℕ
 zeros n = (119 - n % 64) % 64
 

@@ -1,13 +1,20 @@
--- The code's own way to the schedule, in no promise to a caller: a ring of sixteen words, in which word j stands at j % 16.
+-- The code's own, in no promise to a caller: constants handed out four at a time, and the schedule in a ring of sixteen words,
+-- in which word j stands at j % 16.
 use Prim.Native.Nat.{ℕ, _+_, _%_, _^_}
 use mathlib.Core.Bool.{cond}
 use mathlib.Core.List.{List}
 use mathlib.Core.Path.{_≡_}
 use lib.Dec.{ltb}
 use lib.ListN.{getD, set}
+use Rattle.sha256.specs.Constants.{K}
 use Rattle.sha256.specs.Rounds.{round}
 use Rattle.sha256.specs.Words.{σ₀, σ₁}
 use Rattle.sha256.specs.declared.hash.Hash.{Hash}
+use Rattle.sha256.specs.declared.schedule.Four.{Four}
+
+-- the constants of the four rounds from t on, as the code hands them out
+abbrev pub fourFrom : ℕ → Four
+fourFrom t = record { 0 = K t; 1 = K (t + 1); 2 = K (t + 2); 3 = K (t + 3) }
 
 -- word t, from the ring w of the words before it
 unfoldable pub ringWord : List ℕ → ℕ → ℕ

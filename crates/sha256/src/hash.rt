@@ -99,10 +99,10 @@ impl Hash {
         for i in 0..16 {
             let k = constants(i);
             let t = 4 * i;
-            v = v.turn(&mut w, t, k.k0);
-            v = v.turn(&mut w, t + 1, k.k1);
-            v = v.turn(&mut w, t + 2, k.k2);
-            v = v.turn(&mut w, t + 3, k.k3);
+            v = v.turn(&mut w, t, k.0);
+            v = v.turn(&mut w, t + 1, k.1);
+            v = v.turn(&mut w, t + 2, k.2);
+            v = v.turn(&mut w, t + 3, k.3);
         }
         v.plus(self)
     }
