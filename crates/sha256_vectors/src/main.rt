@@ -16,9 +16,9 @@ fn published() {
     show::digest(sha256::digest(b""));
     name(b"abc");
     show::digest(sha256::digest(b"abc"));
-    name(b"two-block");
+    name(b"448-bit");
     show::digest(sha256::digest(b"abcdbcdecdefdefgefghfghighijhijkijkljklmklmnlmnomnopnopq"));
-    name(b"four-block");
+    name(b"896-bit");
     show::digest(sha256::digest(
         b"abcdefghbcdefghicdefghijdefghijkefghijklfghijklmghijklmnhijklmnoijklmnopjklmnopqklmnopqrlmnopqrsmnopqrstnopqrstu",
     ));
