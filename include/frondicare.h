@@ -5,8 +5,8 @@
  * refusal writes nothing.
  *
  * What a caller owes: a pointer and its length describe memory that can be read, a digest 32 bytes
- * that can be written and that no other argument reaches. A pointer is not null, save where its
- * length is 0. */
+ * that can be written and that no other argument reaches. No pointer is null, also where its length
+ * is 0. */
 #ifndef FRONDICARE_H
 #define FRONDICARE_H
 

@@ -1,6 +1,7 @@
 #!/usr/bin/env bash
 # ./frondicare digest against coreutils: sizes around the command's 64 KiB buffer, by name, on standard
-# input and through a slow pipe; and what it says where a file cannot be read.
+# input and through a pipe in small writes; the longest input that has a digest and one byte more; and what it
+# says where a file cannot be read.
 set -euo pipefail
 cd "$(dirname "$0")/../.."
 work=$(mktemp -d)
@@ -21,4 +22,13 @@ same "a missing file" "" "$(./frondicare digest "$work/missing" 2>"$work/said")"
 grep -q missing "$work/said"
 same "a folder" "" "$(./frondicare digest "$work" 2>"$work/said")"
 grep -q "$work" "$work/said"
-echo "digest command: 32 cases passed"
+same "a name too long" "" "$(./frondicare digest "$(head -c 5000 /dev/zero | tr '\0' n)" 2>"$work/said")"
+grep -q "name of the file" "$work/said"
+
+# 4,294,967,295 zeros, against coreutils, and one more; the program itself, since two wrappers at once would both check it
+head -c 4294967295 /dev/zero | target/bin/digest >"$work/longest" &
+refused=$(head -c 4294967296 /dev/zero | target/bin/digest)
+wait
+same "one byte too many" "REFUSE 12" "$refused"
+same "the longest input" 318eea1453f3a536e42d9637db593982c5c297220b2019bd4b7ad08e88d91e4b "$(cat "$work/longest")"
+echo "digest command: 35 cases passed"

@@ -84,6 +84,10 @@ fn main() {
         return;
     }
     let n = os::arg(1, &mut path);
+    if os::errno() != 0 {
+        os::fail(b"the name of the file");
+        return;
+    }
     let fd = os::open_read(&path[..n]);
     if fd < 0 {
         os::fail(&path[..n]);

@@ -24,7 +24,7 @@ padTo n m = m ++ padding n
 abbrev pub pad : List ℕ → List ℕ
 pad m = padTo (length m) m
 
--- the number N of blocks of a padded message of n bytes
+-- the number N of blocks of a padded message of n bytes (proofs/Padding.antt, length-pad)
 abbrev pub N : ℕ → ℕ
 N n = (n + 8) / 64 + 1
 

@@ -1,7 +1,7 @@
 // FIPS 180-4, 5.1.1 and 5.2.1: the padded message, read where it lies and parsed into words.
 ghost use mathlib.Core.Path.{_≡_};
 ghost use mathlib.Core.List.{_++_};
-ghost use Prim.Native.Nat.{_+_, _*_, _%_, _^_, _<_, _≤_};
+ghost use Prim.Native.Nat.{_+_, _*_, _^_, _<_, _≤_};
 ghost use lib.ListN.{length, getD};
 ghost use Rattle.sha256.specs.Reading.{PaddedRest, Same64};
 ghost use Rattle.sha256.specs.Message.{zeros, padding, padTo, N, wordsAt};

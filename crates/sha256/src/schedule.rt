@@ -1,6 +1,6 @@
 // FIPS 180-4, 4.2.2 and 6.2.2, step 1: the constants, and the message schedule in sixteen words.
 ghost use mathlib.Core.Path.{_≡_};
-ghost use Prim.Native.Nat.{_+_, _*_, _<_};
+ghost use Prim.Native.Nat.{_*_, _<_};
 ghost use Rattle.sha256.specs.Ring.{fourFrom, ringWord};
 use crate::word::small_sigma0;
 use crate::word::small_sigma1;

@@ -1,6 +1,6 @@
 // FIPS 180-4, 4.1.2: the functions on 32-bit words, and sums modulo 2^32.
 ghost use mathlib.Core.Path.{_≡_};
-ghost use Prim.Native.Nat.{_+_, _*_, _%_, _^_, _<_};
+ghost use Prim.Native.Nat.{_+_, _%_, _^_, _<_};
 ghost use Rattle.sha256.specs.Words.{ROTR, Ch, Maj, Σ₀, Σ₁, σ₀, σ₁};
 use std::num::wrapping_add_u32 as add;
 

@@ -1,5 +1,5 @@
 // What the programs print of an answer, each with a line end. No contract can say what is written,
-// so these have none beyond safety, and stored output tests them.
+// so these have none beyond safety; stored output and tests/command hold them.
 use libc::STDOUT_FILENO;
 use sha256::Answer;
 
