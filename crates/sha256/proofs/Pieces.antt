@@ -7,7 +7,7 @@ use native.Mathlib.Nat.{add-zero, add-suc}
 use native.Mathlib.Omega.{arith}
 use lib.ListN.{getD, length, length-append, List·getD-append}
 use Rattle.sha256.specs.Constants.{initial}
-use Rattle.sha256.specs.Digest.{hashed, digest, answer, answerAfter, HandedOn}
+use Rattle.sha256.specs.Digest.{hashed, digest, answer, answerUpTo, afterUpTo, answerAfter, HandedOn}
 use Rattle.sha256.specs.Message.{padding, padTo, pad, N, M}
 use Rattle.sha256.specs.declared.hash.Hash.{Hash}
 use Rattle.sha256.proofs.Padding.{append-at, length-pad}
@@ -45,7 +45,7 @@ module _ (p : List ℕ) (k : ℕ) (e : length p ≡ 64 * k) (m : List ℕ) where
   all-blocks = rw (length-pad (p ++ m), all-bytes) (omega arith)
 
   finished : answerAfter (hashed initial p k) k m ≡ answer (p ++ m)
-  unfolding answer answerAfter digest
+  unfolding answerUpTo afterUpTo digest
   finished = rw (all-blocks, padded, all-bytes, onward p (padTo (64 * k + length m) m) initial k (N (length m)) e)
 
 pub handed-on : (p : List ℕ) (k : ℕ) → length p ≡ 64 * k → HandedOn p k

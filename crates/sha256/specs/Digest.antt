@@ -24,9 +24,13 @@ toBytes s =
 unfoldable pub digest : List ℕ → List ℕ
 digest m = toBytes (hashed initial (pad m) (length (pad m) / 64))
 
--- Document 01, number 12: over 4,294,967,295 bytes.
+-- Document 01, number 12: a lent slice has at most 4,294,967,295 bytes.
 abbrev pub longest : ℕ
 longest = 4294967295
+
+-- 1: a message has fewer than 2^64 bits.
+abbrev pub longestOfAll : ℕ
+longestOfAll = 2305843009213693951
 
 abbrev pub given : List ℕ → Answer
 given d = record { number = 0; bytes = d }
@@ -34,13 +38,20 @@ given d = record { number = 0; bytes = d }
 abbrev pub refused : Answer
 refused = record { number = 12; bytes = replicate 32 0 }
 
--- what a digest of the message m answers
-unfoldable pub answer : List ℕ → Answer
-answer m = cond (leb (length m) longest) (given (digest m)) refused
+-- what a digest of the message m answers, where the message may have `most` bytes
+unfoldable pub answerUpTo : ℕ → List ℕ → Answer
+answerUpTo most m = cond (leb (length m) most) (given (digest m)) refused
 
--- what it answers where k blocks before m have already led to the hash value s
-unfoldable pub answerAfter : Hash → ℕ → List ℕ → Answer
-answerAfter s k m = cond (leb (64 * k + length m) longest) (given (toBytes (hashed s (padTo (64 * k + length m) m) (N (length m))))) refused
+abbrev pub answer : List ℕ → Answer
+answer m = answerUpTo longest m
+
+-- the same where k blocks before m have already led to the hash value s
+unfoldable pub afterUpTo : ℕ → Hash → ℕ → List ℕ → Answer
+afterUpTo most s k m =
+    cond (leb (64 * k + length m) most) (given (toBytes (hashed s (padTo (64 * k + length m) m) (N (length m))))) refused
+
+abbrev pub answerAfter : Hash → ℕ → List ℕ → Answer
+answerAfter s k m = afterUpTo longest s k m
 
 -- Handing the hash value on: what proofs/Pieces.antt shows of a message that begins with the k whole blocks p.
 pub record HandedOn (p : List ℕ) (k : ℕ) : Type 0 where

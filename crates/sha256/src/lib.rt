@@ -10,7 +10,7 @@ ghost use mathlib.Core.List.{_++_};
 ghost use Prim.Native.Nat.{_+_, _*_, _≤_};
 ghost use lib.Dec.{leb};
 ghost use lib.ListN.{length};
-ghost use Rattle.sha256.specs.Digest.{hashed, longest, answer, answerAfter};
+ghost use Rattle.sha256.specs.Digest.{hashed, longestOfAll, answerUpTo, answer, afterUpTo, answerAfter};
 ghost use Rattle.sha256.specs.Message.{padTo, N, wordsAt};
 ghost use Rattle.sha256.specs.Rounds.{compress};
 ghost use Rattle.sha256.specs.Reading.{PaddedRest};
@@ -24,17 +24,20 @@ pub struct Answer {
     pub bytes: [u8; 32],
 }
 
-// Document 01, number 12: a longer message is refused.
+// Document 01, number 12: a longer slice is refused.
 const LONGEST: usize = 4_294_967_295;
 
-// Whether k blocks, n bytes and m bytes are together short enough.
-fn fits(k: usize, n: usize, m: usize) -> bool
-    ensures { λ r. ⌜ r ≡ leb (64 * k + (n + m)) longest ⌝ }
+// FIPS 180-4 has no digest of 2^64 bits or more.
+const LONGEST_OF_ALL: usize = 2_305_843_009_213_693_951;
+
+// Whether k blocks, n bytes and m bytes are together no more than most.
+fn fits(k: usize, n: usize, m: usize, most: usize) -> bool
+    ensures { λ r. ⌜ r ≡ leb (64 * k + (n + m)) most ⌝ }
 {
-    if k > LONGEST / 64 {
+    if k > most / 64 {
         return false;
     }
-    let left = LONGEST - 64 * k;
+    let left = most - 64 * k;
     if n > left {
         return false;
     }
@@ -78,12 +81,13 @@ fn hash_rest(hash: Hash, first: &[u8], second: &[u8], n: usize) -> Hash
     h
 }
 
-// The digest of a message whose first k blocks led to this hash value and whose rest is first and
-// then second.
-fn finish(hash: Hash, k: usize, first: &[u8], second: &[u8]) -> Answer
-    ensures { λ r. ⌜ r ≡ answerAfter hash k (now (first .entry) ++ now (second .entry)) ⌝ }
+// The digest of a message of at most most bytes whose first k blocks led to this hash value and whose
+// rest is first and then second.
+fn finish(hash: Hash, k: usize, first: &[u8], second: &[u8], most: usize) -> Answer
+    requires { ⌜ most ≤ longestOfAll ⌝ }
+    ensures { λ r. ⌜ r ≡ afterUpTo most hash k (now (first .entry) ++ now (second .entry)) ⌝ }
 {
-    if fits(k, first.len(), second.len()) {
+    if fits(k, first.len(), second.len(), most) {
         let n = 64 * k + (first.len() + second.len());
         Answer {
             number: 0,
@@ -101,14 +105,22 @@ fn finish(hash: Hash, k: usize, first: &[u8], second: &[u8]) -> Answer
 pub fn digest_after(hash: Hash, k: usize, rest: &[u8]) -> Answer
     ensures { λ r. ⌜ r ≡ answerAfter hash k (now (rest .entry)) ⌝ }
 {
-    finish(hash, k, rest, b"")
+    finish(hash, k, rest, b"", LONGEST)
 }
 
 // The digest of first and then second, where they lie.
 pub fn digest_of_two(first: &[u8], second: &[u8]) -> Answer
     ensures { λ r. ⌜ r ≡ answer (now (first .entry) ++ now (second .entry)) ⌝ }
 {
-    finish(Hash::new(), 0, first, second)
+    finish(Hash::new(), 0, first, second, LONGEST)
+}
+
+// The same where only FIPS bounds the length. An image's digest needs it: with the header, a firmware
+// of 2^32 - 1 bytes is a message longer than a lent slice may be.
+pub fn long_digest_of_two(first: &[u8], second: &[u8]) -> Answer
+    ensures { λ r. ⌜ r ≡ answerUpTo longestOfAll (now (first .entry) ++ now (second .entry)) ⌝ }
+{
+    finish(Hash::new(), 0, first, second, LONGEST_OF_ALL)
 }
 
 pub fn digest(message: &[u8]) -> Answer

@@ -1,0 +1,5 @@
+pub mod Numbers
+pub mod Tests
+pub mod Walk
+pub mod First
+pub mod Refusals

@@ -1,0 +1,60 @@
+use Prim.Native.Nat.{_-_}
+use mathlib.Core.Path.{_≡_, refl, sym, _∙_}
+use native.Mathlib.Omega.{arith}
+use borrow.Author.Needs.{needs}
+use borrow.Author.Tests.{eq-eqb, ne-eqb}
+use Rattle.header.specs.Lookup.{first}
+use Rattle.header.specs.Walk.{walk}
+use Rattle.header.proofs.First.{stops, pads, finds, passes}
+use Rattle.header.proofs.Walk.{Good, on}
+use Rattle.header.proofs.tags.find.Statement.{statement}
+use Rattle.header.proofs.tags.find.Tie as tie
+
+abbrev Inv-loop : tie.InvT-loop
+Inv-loop header start kind p₀ p = first kind (walk header 256 p) ≡ first kind (walk header 256 start)
+
+abbrev μ-loop : tie.MeasureT-loop
+μ-loop header start kind p₀ p = 256 - p
+
+loop-holds : tie.Need-loop-holds Inv-loop μ-loop
+loop-holds c = refl
+
+walk-step-requires : tie.Need-walk-step-requires Inv-loop μ-loop
+walk-step-requires c κs = tt
+
+returns : tie.Need-returns Inv-loop μ-loop
+returns c =
+    let l = c .before .before .before in
+    sym (stops _ _ _ _ (sym (l .walk-step .ensures) ∙ c .before .number .given .1)) ∙ l .before .loop .inv
+
+loop-less : tie.Need-loop-less Inv-loop μ-loop
+loop-less c = omega (arith, on _ _ _ (sym (c .before .before .before .walk-step .ensures) ∙ c .before .next .given .1))
+
+loop-again : tie.Need-loop-again Inv-loop μ-loop
+loop-again c =
+    let l = c .before .before .before in
+    sym (pads _ _ _ _ (sym (l .walk-step .ensures) ∙ c .before .next .given .1)) ∙ l .before .loop .inv
+
+returns-2 : tie.Need-returns-2 Inv-loop μ-loop
+returns-2 c =
+    let l = c .before .before .before .before .before in
+    sym (finds _ _ _ _ (sym (l .walk-step .ensures) ∙ c .before .before .before .t .given .1) (eq-eqb _ _ (c .if1 .taken))) ∙ l .before .loop .inv
+
+met : (c : tie.After-struct-known2 Inv-loop μ-loop) → Good 256 (c .before .before .before .before .before .before .before .loop .p) (c .before .before .before .before .t .given .0 .0)
+met c = on _ _ _ (sym (c .before .before .before .before .before .before .walk-step .ensures) ∙ c .before .before .before .before .t .given .1)
+
+add-p : tie.Need-add-p Inv-loop μ-loop
+add-p c = omega (arith, met c)
+
+loop-less-2 : tie.Need-loop-less-2 Inv-loop μ-loop
+loop-less-2 c = omega (arith, met c)
+
+loop-again-2 : tie.Need-loop-again-2 Inv-loop μ-loop
+loop-again-2 c =
+    let l = c .before .before .before .before .before .before in
+    sym (passes _ _ _ _ (sym (l .walk-step .ensures) ∙ c .before .before .before .before .t .given .1) (ne-eqb _ _ (c .before .if1 .left))) ∙ l .before .loop .inv
+
+pub find-spec : {M : Type 1} → statement M
+find-spec =
+    tie.close (tie.spec Inv-loop μ-loop loop-holds walk-step-requires (λ c. search needs) returns (λ c. search needs) loop-less
+    loop-again (λ c. search needs) returns-2 add-p loop-less-2 loop-again-2)

@@ -1,0 +1,77 @@
+-- Document 01, "Header" and "Numbers given back": the checks of a header, 10 to 16, in the paper's order.
+use Prim.Native.Nat.{ℕ, _+_}
+use mathlib.Core.Bool.{Bool, cond, _&&_}
+use mathlib.Core.List.{List, [], _∷_, map}
+use lib.Dec.{ltb, eqb}
+use lib.ListN.{length}
+use Rattle.header.specs.Lookup.{viewOf}
+use Rattle.header.specs.Numbers.{byteAt, numberAt}
+use Rattle.header.specs.Walk.{walk}
+use Rattle.header.specs.declared.checks.Version.{Version}
+use Rattle.header.specs.declared.tags.Tag.{Tag}
+
+-- the first number that is not 0, and 0 where there is none
+abbrev pub firstOf : List ℕ → ℕ
+firstOf [] = 0
+firstOf (n ∷ ns) = cond (eqb n 0) (firstOf ns) n
+
+abbrev pub lengthCheck : List ℕ → ℕ
+lengthCheck i = cond (ltb (length i) 256) 10 0
+
+-- the image mark, 57 4F 4C 46
+abbrev pub marked : List ℕ → Bool
+marked i = eqb (byteAt i 0) 0x57 && eqb (byteAt i 1) 0x4F && eqb (byteAt i 2) 0x4C && eqb (byteAt i 3) 0x46
+
+abbrev pub markCheck : List ℕ → ℕ
+markCheck i = cond (marked i) 0 11
+
+-- the firmware's size, without the header
+abbrev pub sizeOf : List ℕ → ℕ
+sizeOf i = numberAt 4 i 4
+
+abbrev pub sizeCheck : List ℕ → ℕ
+sizeCheck i = cond (eqb (sizeOf i) 0) 12 (cond (ltb (length i) (256 + sizeOf i)) 12 0)
+
+-- the number with which the walk over all tags ended
+abbrev pub walkCheck : ℕ → ℕ
+walkCheck n = cond (eqb n 13) 13 0
+
+-- the tags of type k, in order
+abbrev pub ofKind : ℕ → List Tag → List Tag
+ofKind k [] = []
+ofKind k (t ∷ ts) = cond (eqb (t .kind) k) (t ∷ ofKind k ts) (ofKind k ts)
+
+-- of the tags of a mandatory type of length n: 14 missing, 15 repeated, 16 of wrong length
+abbrev pub mandatoryCheck : ℕ → List Tag → ℕ
+mandatoryCheck n [] = 14
+mandatoryCheck n (t ∷ []) = cond (eqb (t .len) n) 0 16
+mandatoryCheck n (t ∷ (u ∷ ts)) = 15
+
+-- version, timestamp, digest, signature, firmware type
+abbrev pub mandatory : List (record { kind : ℕ; len : ℕ })
+mandatory =
+    record { kind = 0x0001; len = 4 }
+    ∷ record { kind = 0x0002; len = 8 }
+    ∷ record { kind = 0x0003; len = 32 }
+    ∷ record { kind = 0x0020; len = 64 }
+    ∷ record { kind = 0x0030; len = 2 }
+    ∷ []
+
+unfoldable pub tagsCheck : List Tag → ℕ
+tagsCheck ts = firstOf (map (λ (m : record { kind : ℕ; len : ℕ }). mandatoryCheck (m .len) (ofKind (m .kind) ts)) mandatory)
+
+-- the number of the first check that an image's header fails, and 0 where it fails none
+unfoldable pub headerCheck : List ℕ → ℕ
+headerCheck i =
+    firstOf
+    (lengthCheck i
+    ∷ markCheck i
+    ∷ sizeCheck i
+    ∷ walkCheck (walk i 256 8 .number)
+    ∷ tagsCheck (walk i 256 8 .tags)
+    ∷ [])
+
+-- the version of an image whose header passes; a refusal gives its number and nothing else
+unfoldable pub versionOf : List ℕ → Version
+versionOf i =
+    record { number = headerCheck i; version = cond (eqb (headerCheck i) 0) (numberAt 4 (viewOf i 0x0001) 0) 0 }

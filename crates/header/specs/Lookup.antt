@@ -1,0 +1,45 @@
+-- Document 01, "Header": lookup of a type, and a view.
+use Prim.Native.Nat.{ℕ, _-_}
+use mathlib.Core.Bool.{cond}
+use mathlib.Core.List.{List, [], _∷_}
+use lib.Dec.{ltb, eqb}
+use lib.ListN.{length, take, drop}
+use Rattle.header.specs.Walk.{Walk, walk}
+use Rattle.header.specs.declared.tags.Lookup.the-variants.{Found, Refused}
+use Rattle.header.specs.declared.tags.Lookup.{Lookup}
+use Rattle.header.specs.declared.tags.Tag.{Tag}
+
+-- the first of some tags that has type k, or the refusal n
+abbrev pub firstIn : ℕ → List Tag → ℕ → Lookup
+firstIn k [] n = Refused n
+firstIn k (t ∷ ts) n = cond (eqb (t .kind) k) (Found t) (firstIn k ts n)
+
+-- the first tag of type k that a walk meets, or the number with which it ended
+abbrev pub first : ℕ → Walk → Lookup
+first k w = firstIn k (w .tags) (w .number)
+
+-- the tags of a header start at 8 and end at 256
+unfoldable pub lookup : List ℕ → ℕ → Lookup
+lookup h k = cond (ltb (length h) 256) (Refused 10) (first k (walk h 256 8))
+
+-- document 01's number for a lookup, 0 where it found a tag
+abbrev pub number : Lookup → ℕ
+number (Found t) = 0
+number (Refused n) = n
+
+-- what a tag's view shows of the header; the empty part where lookup refuses
+abbrev pub contentOf : List ℕ → Lookup → List ℕ
+contentOf h (Found t) = take (t .len) (drop (t .at) h)
+contentOf h (Refused n) = []
+
+abbrev pub viewOf : List ℕ → ℕ → List ℕ
+viewOf h k = contentOf h (lookup h k)
+
+-- the bytes before a tag's type
+abbrev pub beforeTag : List ℕ → Lookup → List ℕ
+beforeTag h (Found t) = take (t .at - 4) h
+beforeTag h (Refused n) = []
+
+-- what the digest covers of the header: up to the type of the first digest tag
+abbrev pub coveredOf : List ℕ → List ℕ
+coveredOf h = beforeTag h (lookup h 0x0003)

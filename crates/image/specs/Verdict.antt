@@ -1,0 +1,34 @@
+-- Document 01, "Header" and "Numbers given back": the verdict on an image.
+use Prim.Native.Nat.{ℕ}
+use mathlib.Core.Bool.{Bool, true, false, cond, _&&_}
+use mathlib.Core.List.{List, [], _∷_, _++_}
+use lib.Dec.{eqb}
+use lib.ListN.{take, drop}
+use Rattle.header.specs.Checks.{firstOf, sizeOf, headerCheck}
+use Rattle.header.specs.Lookup.{viewOf, coveredOf}
+use Rattle.sha256.specs.Digest.{digest}
+
+-- whether two lists of bytes are the same
+unfoldable pub same : List ℕ → List ℕ → Bool
+same [] [] = true
+same [] (y ∷ ys) = false
+same (x ∷ xs) [] = false
+same (x ∷ xs) (y ∷ ys) = eqb x y && same xs ys
+
+-- the firmware: from 256 on, as many bytes as the size says
+abbrev pub firmwareOf : List ℕ → List ℕ
+firmwareOf i = take (sizeOf i) (drop 256 i)
+
+-- SHA-256 over the bytes from 0 up to the type of the first digest tag, followed by the firmware
+unfoldable pub digestOf : List ℕ → List ℕ
+digestOf i = digest (coveredOf i ++ firmwareOf i)
+
+abbrev pub digestCheck : List ℕ → ℕ
+digestCheck i = cond (same (viewOf i 0x0003) (digestOf i)) 0 17
+
+abbrev pub signatureCheck : Bool → ℕ
+signatureCheck signed = cond signed 0 18
+
+-- the number of the first check that an image fails, and 0 where it passes
+unfoldable pub verdict : List ℕ → Bool → ℕ
+verdict i signed = firstOf (headerCheck i ∷ digestCheck i ∷ signatureCheck signed ∷ [])

@@ -1,0 +1,4 @@
+pub mod Stores
+pub mod Run
+pub mod Accepted
+pub mod Whole

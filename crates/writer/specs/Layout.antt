@@ -1,0 +1,41 @@
+-- Document 01, "Header", writer: the header's pieces one after the other.
+use Prim.Native.Nat.{ℕ, zero, suc, _-_, _/_, _%_}
+use mathlib.Core.List.{List, [], _∷_, _++_}
+use lib.ListN.{length, replicate}
+use Rattle.sha256.specs.Digest.{digest}
+use Rattle.writer.specs.declared.Fields.{Fields}
+
+-- the n low bytes of x, the lowest first
+unfoldable pub leBytes : ℕ → ℕ → List ℕ
+leBytes zero x = []
+leBytes (suc n) x = x % 256 ∷ leBytes n (x / 256)
+
+-- a tag: type, length, content
+abbrev pub headBytes : ℕ → ℕ → List ℕ
+headBytes kind n = leBytes 2 kind ++ leBytes 2 n
+
+unfoldable pub tagBytes : ℕ → List ℕ → List ℕ
+tagBytes kind content = headBytes kind (length content) ++ content
+
+-- what the digest covers of the header: everything before the digest tag
+unfoldable pub coveredPart : Fields → List ℕ → List ℕ → List ℕ → List ℕ
+coveredPart fields firmware custom hint =
+    (0x57 ∷ 0x4F ∷ 0x4C ∷ 0x46 ∷ [])
+    ++ leBytes 4 (length firmware)
+    ++ tagBytes 0x0001 (leBytes 4 (fields .version))
+    ++ tagBytes 0x0002 (leBytes 8 (fields .timestamp))
+    ++ tagBytes 0x0030 (leBytes 2 (fields .«firmware_type»))
+    ++ custom
+    ++ tagBytes 0x0010 hint
+
+-- the 32 bytes to be signed
+unfoldable pub digestToSign : Fields → List ℕ → List ℕ → List ℕ → List ℕ
+digestToSign fields firmware custom hint = digest (coveredPart fields firmware custom hint ++ firmware)
+
+-- the whole header
+unfoldable pub written : Fields → List ℕ → List ℕ → List ℕ → List ℕ → List ℕ
+written fields firmware custom hint signature =
+    coveredPart fields firmware custom hint
+    ++ tagBytes 0x0003 (digestToSign fields firmware custom hint)
+    ++ tagBytes 0x0020 signature
+    ++ replicate (82 - length custom) 0xFF

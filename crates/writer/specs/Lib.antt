@@ -1,0 +1,4 @@
+pub mod Custom
+pub mod Layout
+pub mod Writer
+pub mod Stored
