@@ -8,8 +8,7 @@ use native.Mathlib.Omega.{arith}
 use lib.Dec.{ltb, eqb}
 use lib.ListN.{length, length-take}
 use borrow.Author.Tests.{le-ltb, ltb-false, ne-eqb}
-use Rattle.header.specs.Checks.{ofKind}
-use Rattle.header.specs.Lookup.{first, lookup, beforeTag, coveredOf}
+use Rattle.header.specs.Lookup.{ofKind, first, lookup, beforeTag, coveredOf}
 use Rattle.header.specs.Walk.{stepAt, Walk, onStep, walk}
 use Rattle.header.specs.declared.tags.Lookup.the-variants.{Found, Refused}
 use Rattle.header.specs.declared.tags.Lookup.{Lookup}
@@ -37,18 +36,18 @@ module _ (s : List ℕ) (e p k : ℕ) where
   passes q h = step-of q ∙ simp h
 
 -- a tag that is met from a later place on
-pub later : {e p q : ℕ} {t : Tag} → p ≤ q → Good e q t → Good e p t
-later l g = record { typed = g .typed; starts = omega arith; inside = g .inside }
+pub later : {s : List ℕ} {e p q : ℕ} {t : Tag} → p ≤ q → Good s e q t → Good s e p t
+later l g = record { is = g .is; typed = g .typed; unpadded = g .unpadded; starts = omega arith; inside = g .inside }
 
 -- a tag that a lookup finds is one that the walk meets
-pub found-good : (s : List ℕ) (e p k : ℕ) {t : Tag} → first k (walk s e p) ≡ Found t → Good e p t
+pub found-good : (s : List ℕ) (e p k : ℕ) {t : Tag} → first k (walk s e p) ≡ Found t → Good s e p t
 found-good s e p k {t} =
-    walk-ind s e (λ (q : ℕ) (w : Walk). first k w ≡ Found t → Good e q t)
-    (λ q n h. absurd (let z : _≡_ {A = ℕ} 0 1 = cc in omega arith))
-    (λ q n l ih h. later (omega arith) (ih h))
+    walk-ind s e (λ (q : ℕ) (w : Walk). first k w ≡ Found t → Good s e q t)
+    (λ q n d h. absurd (let z : _≡_ {A = ℕ} 0 1 = cc in omega arith))
+    (λ q n l m ih h. later (omega arith) (ih h))
     (λ q u g ih.
-    by-test (λ (r : Lookup). r ≡ Found t → Good e q t) (eqb (u .kind) k)
-    (λ b h. let same : u ≡ t = cc in subst (Good e q) same g)
+    by-test (λ (r : Lookup). r ≡ Found t → Good s e q t) (eqb (u .kind) k)
+    (λ b h. let same : u ≡ t = cc in subst (Good s e q) same g)
     (λ b h. later (omega arith) (ih h)))
     p
 
@@ -60,8 +59,8 @@ fromFound s e k (Refused n) = []
 pub of-kind : (s : List ℕ) (e p k : ℕ) → ofKind k (walk s e p .tags) ≡ fromFound s e k (first k (walk s e p))
 of-kind s e p k =
     walk-ind s e (λ (q : ℕ) (w : Walk). ofKind k (w .tags) ≡ fromFound s e k (first k w))
-    (λ q n. refl)
-    (λ q n l ih. ih)
+    (λ q n d. refl)
+    (λ q n l m ih. ih)
     (λ q t g ih. both (eqb (t .kind) k) t (ofKind k (walk s e (t .at + t .len) .tags)) (first k (walk s e (t .at + t .len))) ih)
     p
   where
@@ -76,8 +75,8 @@ of-kind s e p k =
 pub to-end : (s : List ℕ) (e p : ℕ) → first 0 (walk s e p) ≡ Refused (walk s e p .number)
 to-end s e p =
     walk-ind s e (λ (q : ℕ) (w : Walk). first 0 w ≡ Refused (w .number))
-    (λ q n. refl)
-    (λ q n l ih. ih)
+    (λ q n d. refl)
+    (λ q n l m ih. ih)
     (λ q t g ih. simp (ne-eqb (t .kind) 0 (g .typed)) ih)
     p
 
@@ -89,7 +88,7 @@ long-enough h k l = simp (le-ltb (length h) 256 l)
 -- what is known of a tag that is looked up
 pub record InHeader (h : List ℕ) (t : Tag) : Type 0 where
   pub long : 256 ≤ length h
-  pub good : Good 256 8 t
+  pub good : Good h 256 8 t
 
 pub looked-up : (h : List ℕ) (k : ℕ) {t : Tag} → lookup h k ≡ Found t → InHeader h t
 unfolding lookup

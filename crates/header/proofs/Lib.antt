@@ -3,3 +3,4 @@ pub mod Tests
 pub mod Walk
 pub mod First
 pub mod Refusals
+pub mod Shown

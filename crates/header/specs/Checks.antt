@@ -4,7 +4,7 @@ use mathlib.Core.Bool.{Bool, cond, _&&_}
 use mathlib.Core.List.{List, [], _∷_, map}
 use lib.Dec.{ltb, eqb}
 use lib.ListN.{length}
-use Rattle.header.specs.Lookup.{viewOf}
+use Rattle.header.specs.Lookup.{viewOf, ofKind}
 use Rattle.header.specs.Numbers.{byteAt, numberAt}
 use Rattle.header.specs.Walk.{walk}
 use Rattle.header.specs.declared.checks.Version.{Version}
@@ -35,11 +35,6 @@ sizeCheck i = cond (eqb (sizeOf i) 0) 12 (cond (ltb (length i) (256 + sizeOf i))
 -- the number with which the walk over all tags ended
 abbrev pub walkCheck : ℕ → ℕ
 walkCheck n = cond (eqb n 13) 13 0
-
--- the tags of type k, in order
-abbrev pub ofKind : ℕ → List Tag → List Tag
-ofKind k [] = []
-ofKind k (t ∷ ts) = cond (eqb (t .kind) k) (t ∷ ofKind k ts) (ofKind k ts)
 
 -- of the tags of a mandatory type of length n: 14 missing, 15 repeated, 16 of wrong length
 abbrev pub mandatoryCheck : ℕ → List Tag → ℕ

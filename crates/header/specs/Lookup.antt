@@ -1,9 +1,11 @@
 -- Document 01, "Header": lookup of a type, and a view.
-use Prim.Native.Nat.{ℕ, _-_}
+use Prim.Native.Nat.{ℕ, _-_, _%_, _<_, _≤_}
 use mathlib.Core.Bool.{cond}
 use mathlib.Core.List.{List, [], _∷_}
+use mathlib.Core.Path.{_≡_}
 use lib.Dec.{ltb, eqb}
 use lib.ListN.{length, take, drop}
+use Rattle.header.specs.Numbers.{byteAt}
 use Rattle.header.specs.Walk.{Walk, walk}
 use Rattle.header.specs.declared.tags.Lookup.the-variants.{Found, Refused}
 use Rattle.header.specs.declared.tags.Lookup.{Lookup}
@@ -43,3 +45,16 @@ beforeTag h (Refused n) = []
 -- what the digest covers of the header: up to the type of the first digest tag
 abbrev pub coveredOf : List ℕ → List ℕ
 coveredOf h = beforeTag h (lookup h 0x0003)
+
+-- the tags of type k, in order
+abbrev pub ofKind : ℕ → List Tag → List Tag
+ofKind k [] = []
+ofKind k (t ∷ ts) = cond (eqb (t .kind) k) (t ∷ ofKind k ts) (ofKind k ts)
+
+-- What is shown of every lookup (proofs/Shown.antt): in a header that is long enough it gives the first of the tags of its type, and
+-- otherwise how the walk ended; type 0000 and, in bytes, a type whose low byte is FF are never found.
+pub record Agrees (h : List ℕ) (k : ℕ) : Type 0 where
+  pub found : (t : Tag) (ts : List Tag) → 256 ≤ length h → ofKind k (walk h 256 8 .tags) ≡ t ∷ ts → lookup h k ≡ Found t
+  pub absent : 256 ≤ length h → ofKind k (walk h 256 8 .tags) ≡ [] → lookup h k ≡ Refused (walk h 256 8 .number)
+  pub never-ended : (t : Tag) → k ≡ 0 → lookup h k ≡ Found t → ⊥
+  pub never-padded : (t : Tag) → ((p : ℕ) → byteAt h p < 256) → k % 256 ≡ 0xFF → lookup h k ≡ Found t → ⊥

@@ -1,7 +1,9 @@
 -- Document 01, "Header": the walk over the tags, as the list of the tags that it meets and how it ended.
-use Prim.Native.Nat.{ℕ, zero, suc, _+_}
+use Prim.Native.Nat.{ℕ, zero, suc, _+_, _-_, _≤_}
 use mathlib.Core.Bool.{cond}
-use mathlib.Core.List.{List, [], _∷_}
+use mathlib.Core.List.{List, [], _∷_, List·Memᴰ}
+use mathlib.Core.Logic.{_⊎_}
+use mathlib.Core.Path.{_≡_}
 use lib.Dec.{ltb, leb, eqb}
 use Rattle.header.specs.Numbers.{byteAt, numberAt}
 use Rattle.header.specs.declared.tags.Tag.{Tag}
@@ -41,3 +43,12 @@ walkIn (suc k) s e p = onStep (walkIn k s e) (stepAt s e p)
 -- first step and the walk from there (walk-step in proofs/Walk.antt).
 unfoldable pub walk : List ℕ → ℕ → ℕ → Walk
 walk s e p = walkIn (suc e) s e p
+
+-- What is shown of every walk (proofs/Shown.antt): it is its first step and the walk from there, so it ends; it ends with 13 or 25; and
+-- every tag that it meets stands in the bytes, behind place p and not beyond e.
+pub record Stays (s : List ℕ) (e p : ℕ) : Type 0 where
+  pub steps : walk s e p ≡ onStep (walk s e) (stepAt s e p)
+  pub ends : (walk s e p .number ≡ 13) ⊎ (walk s e p .number ≡ 25)
+  pub stands : (t : Tag) → List·Memᴰ t (walk s e p .tags) → t ≡ tagAt s (t .at - 4)
+  pub behind : (t : Tag) → List·Memᴰ t (walk s e p .tags) → p + 4 ≤ t .at
+  pub within : (t : Tag) → List·Memᴰ t (walk s e p .tags) → t .at + t .len ≤ e

@@ -1,7 +1,8 @@
 // The checks of an image's header, 10 to 16, and the version of an image that passes them.
 ghost use mathlib.Core.Path.{_≡_};
 ghost use Rattle.header.specs.Walk.{walk};
-ghost use Rattle.header.specs.Checks.{marked, ofKind, mandatoryCheck, tagsCheck, headerCheck, versionOf};
+ghost use Rattle.header.specs.Lookup.{ofKind};
+ghost use Rattle.header.specs.Checks.{marked, mandatoryCheck, tagsCheck, headerCheck, versionOf};
 use crate::DIGEST;
 use crate::FIRMWARE_TYPE;
 use crate::LENGTH;

@@ -6,12 +6,12 @@ use mathlib.Core.List.{List, []}
 use mathlib.Core.Path.{_≡_, sym, ap, _∙_}
 use native.Mathlib.Omega.{arith}
 use lib.ListN.{length}
-use borrow.Author.Tests.{le-leb, le-ltb, eq-eqb, ne-eqb}
+use borrow.Author.Tests.{le-ltb, eq-eqb, ne-eqb}
 use Rattle.header.specs.Walk.{stepAt, Walk, onStep, walk}
 use Rattle.header.specs.declared.tags.Tag.{Tag}
 use Rattle.header.specs.declared.tags.WalkStep.the-variants.{Stop, Padding, Met}
 use Rattle.header.specs.declared.tags.WalkStep.{WalkStep}
-use Rattle.header.proofs.Walk.{walk-step, walk-ind, step-tag, on}
+use Rattle.header.proofs.Walk.{walk-step, walk-ind, step-end, step-tag, on}
 use Rattle.writer.specs.Custom.{named, tagsOf, oneByOne, customCheck}
 
 -- whether the tags from place p on stand one right behind the other up to place e
@@ -19,12 +19,12 @@ abbrev pub goesOn : List ℕ → ℕ → ℕ → Bool
 goesOn s e p = oneByOne e p (walk s e p .tags)
 
 -- tags that start behind place p leave a gap
-gap : (s : List ℕ) (e p q : ℕ) → p < e → p < q → oneByOne e p (walk s e q .tags) ≡ false
+pub gap : (s : List ℕ) (e p q : ℕ) → p < e → p < q → oneByOne e p (walk s e q .tags) ≡ false
 unfolding oneByOne
 gap s e p q h =
     walk-ind s e (λ (q : ℕ) (w : Walk). p < q → oneByOne e p (w .tags) ≡ false)
-    (λ q n l. ne-eqb p e (omega arith))
-    (λ q r m ih l. ih (omega arith))
+    (λ q n d l. ne-eqb p e (omega arith))
+    (λ q r m b ih l. ih (omega arith))
     (λ q t g ih l. simp (ne-eqb (t .at) (p + 4) (omega arith)))
     q
 
@@ -33,8 +33,8 @@ module _ (s : List ℕ) (e p : ℕ) where
   step-of q = ap (λ (w : Walk). oneByOne e p (w .tags)) (walk-step s e p ∙ ap (onStep (walk s e)) q)
 
   at-end : e ≤ p → p ≤ e → goesOn s e p ≡ true
-  unfolding stepAt oneByOne
-  at-end h l = step-of {w = Stop 25} (rw (le-leb e p h)) ∙ eq-eqb p e (omega arith)
+  unfolding oneByOne
+  at-end h l = step-of (step-end s e p h) ∙ eq-eqb p e (omega arith)
 
   at-stop : {n : ℕ} → p < e → stepAt s e p ≡ Stop n → goesOn s e p ≡ false
   unfolding oneByOne

@@ -13,30 +13,39 @@ add-next c =
 
 returns : tie.Need-returns
 returns c =
+    let two = c .before .before in
+    let t = two .before .before .before in
+    let one = t .before .before in
     rw (
       of-kind,
-      sym (c .before .before .before .before .before .before .before .find .ensures) ∙ c .before .before .before .before .before .t .given .1,
+      sym (one .find .ensures) ∙ t .t .given .1,
       of-kind,
-      sym (c .before .before .find2 .ensures) ∙ c .enum-told .given .1,
+      sym (two .find2 .ensures) ∙ c .enum-told .given .1,
     )
 
 returns-2 : tie.Need-returns-2
 returns-2 c =
+    let two = c .before .before .before .before in
+    let t = two .before .before .before in
+    let one = t .before .before in
     rw (
       of-kind,
-      sym (c .before .before .before .before .before .before .before .before .before .find .ensures) ∙ c .before .before .before .before .before .before .before .t .given .1,
+      sym (one .find .ensures) ∙ t .t .given .1,
       of-kind,
-      sym (c .before .before .before .before .find2 .ensures) ∙ c .before .before .enum-told2 .given .1,
+      sym (two .find2 .ensures) ∙ c .before .before .enum-told2 .given .1,
       eq-eqb _ _ (c .if1 .taken),
     )
 
 returns-3 : tie.Need-returns-3
 returns-3 c =
+    let two = c .before .before .before .before in
+    let t = two .before .before .before in
+    let one = t .before .before in
     rw (
       of-kind,
-      sym (c .before .before .before .before .before .before .before .before .before .find .ensures) ∙ c .before .before .before .before .before .before .before .t .given .1,
+      sym (one .find .ensures) ∙ t .t .given .1,
       of-kind,
-      sym (c .before .before .before .before .find2 .ensures) ∙ c .before .before .enum-told2 .given .1,
+      sym (two .find2 .ensures) ∙ c .before .before .enum-told2 .given .1,
       ne-eqb _ _ (c .if1 .left),
     )
 

@@ -40,7 +40,10 @@ returns-2 c =
     let l = c .before .before .before .before .before in
     sym (finds _ _ _ _ (sym (l .walk-step .ensures) ∙ c .before .before .before .t .given .1) (eq-eqb _ _ (c .if1 .taken))) ∙ l .before .loop .inv
 
-met : (c : tie.After-struct-known2 Inv-loop μ-loop) → Good 256 (c .before .before .before .before .before .before .before .loop .p) (c .before .before .before .before .t .given .0 .0)
+met :
+    (c : tie.After-struct-known2 Inv-loop μ-loop) →
+    let l = c .before .before .before .before .before .before .before in
+    Good (l .before .before .args .header .now) 256 (l .loop .p) (c .before .before .before .before .t .given .0 .0)
 met c = on _ _ _ (sym (c .before .before .before .before .before .before .walk-step .ensures) ∙ c .before .before .before .before .t .given .1)
 
 add-p : tie.Need-add-p Inv-loop μ-loop
@@ -51,8 +54,9 @@ loop-less-2 c = omega (arith, met c)
 
 loop-again-2 : tie.Need-loop-again-2 Inv-loop μ-loop
 loop-again-2 c =
-    let l = c .before .before .before .before .before .before in
-    sym (passes _ _ _ _ (sym (l .walk-step .ensures) ∙ c .before .before .before .before .t .given .1) (ne-eqb _ _ (c .before .if1 .left))) ∙ l .before .loop .inv
+    let t = c .before .before .before .before in
+    let l = t .before .before in
+    sym (passes _ _ _ _ (sym (l .walk-step .ensures) ∙ t .t .given .1) (ne-eqb _ _ (c .before .if1 .left))) ∙ l .before .loop .inv
 
 pub find-spec : {M : Type 1} → statement M
 find-spec =

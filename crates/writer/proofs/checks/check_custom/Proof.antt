@@ -34,7 +34,8 @@ returns-2 c =
 
 met :
     (c : tie.After-struct-known Inv-loop μ-loop) →
-    Good (length (c .before .before .before .before .before .before .before .before .before .before .before .args .run .now)) (c .before .before .before .before .before .before .before .before .loop .p) (c .before .before .before .before .t .given .0 .0)
+    let run = c .before .before .before .before .before .before .before .before .before .before .before .args .run .now in
+    Good run (length (c .before .before .before .before .before .before .before .before .before .before .before .args .run .now)) (c .before .before .before .before .before .before .before .before .loop .p) (c .before .before .before .before .t .given .0 .0)
 met c =
     let t = c .before .before .before .before in
     on _ _ _ (sym (t .before .before .walk-step .ensures) ∙ t .t .given .1)

@@ -1,0 +1,5 @@
+pub mod Truth
+pub mod Standing
+pub mod Passing
+pub mod Placed
+pub mod Claim
