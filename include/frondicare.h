@@ -4,12 +4,19 @@
  * writes only what it was lent, and answers 0 or a number of document 01 ("Numbers given back"). A
  * refusal writes nothing.
  *
- * What a caller owes: a pointer and its length describe memory that can be read, a digest 32 bytes
- * that can be written and that no other argument reaches. No pointer is null, also where its length
- * is 0. */
+ * What a caller owes: a pointer and its length describe memory that can be read; a hint is 32 bytes
+ * and a signature 64 bytes that can be read; a digest is 32 bytes and a buffer buffer_len bytes that
+ * can be written and that no other argument reaches. Arguments that are only read may overlap. No
+ * pointer is null, also where its length is 0.
+ *
+ * To check an image before it is started:
+ *     frondicare_verify(image, image_len, signature_ok) == 0
+ * To make one: frondicare_digest_to_sign, sign the digest, then frondicare_write_header with the
+ * same arguments; the image is the 256 bytes of the buffer, then the firmware. */
 #ifndef FRONDICARE_H
 #define FRONDICARE_H
 
+#include <stdbool.h>
 #include <stddef.h>
 #include <stdint.h>
 
@@ -17,13 +24,57 @@
 extern "C" {
 #endif
 
+/* Fields of a header beside the firmware's size. */
+typedef struct {
+    uint32_t version;
+    uint64_t timestamp;
+    uint16_t firmware_type;
+} frondicare_fields;
+
+/* Where a tag's content lies in its header. number is 0 where the tag was found; otherwise it says
+ * why not, and at and len are 0. */
+typedef struct {
+    uint32_t number;
+    size_t at;
+    size_t len;
+} frondicare_tag;
+
 /* SHA-256 (FIPS 180-4) of a message. 12: longer than 4,294,967,295 bytes. */
-uint32_t frondicare_digest(const uint8_t *message, size_t length, uint8_t digest[32]);
+uint32_t frondicare_digest(const uint8_t *message, size_t message_len, uint8_t digest[32]);
 
 /* The same of a message in two pieces, where they lie. */
-uint32_t frondicare_digest_of_two(const uint8_t *first, size_t first_length,
-                                  const uint8_t *second, size_t second_length,
+uint32_t frondicare_digest_of_two(const uint8_t *first, size_t first_len,
+                                  const uint8_t *second, size_t second_len,
                                   uint8_t digest[32]);
+
+/* The verdict on an image: a header of 256 bytes, then the firmware; bytes after it don't count.
+ * signature_ok is what the caller's signature checker said of the digest in the header. 0: passes.
+ * 10: shorter than 256; 11: mark wrong; 12: size 0 or past the image; 13: a tag passes 256; 14, 15,
+ * 16: a mandatory tag is missing, repeated, of wrong length; 17: digest differs; 18: signature_ok is
+ * false. The first that applies is answered. */
+uint32_t frondicare_verify(const uint8_t *image, size_t image_len, bool signature_ok);
+
+/* The first tag of a type in a header; of a longer slice, such as an image, the first 256 bytes are
+ * read. Types: version 0x0001, timestamp 0x0002, digest 0x0003, key hint 0x0010, signature 0x0020,
+ * firmware type 0x0030. A tag of length 0 is found too. The image is not verified.
+ * 10: shorter than 256; 13: a tag before it passes 256; 25: absent. */
+frondicare_tag frondicare_find_tag(const uint8_t *header, size_t header_len, uint16_t type);
+
+/* The digest to be signed of an image that is yet to be written. custom is a run of custom tags, at
+ * most 82 bytes: type, length, content of each, with no padding; custom_len 0 for none.
+ * 12: firmware empty or longer than 4,294,967,039; 26: custom run longer than 82 bytes; 27: it is not
+ * whole tags, or a type in it is 0, has FF as its low byte, or is one of those named above. */
+uint32_t frondicare_digest_to_sign(frondicare_fields fields,
+                                   const uint8_t *firmware, size_t firmware_len,
+                                   const uint8_t *custom, size_t custom_len,
+                                   const uint8_t hint[32], uint8_t digest[32]);
+
+/* Writes the header of the same image, with the signature of that digest. The digest is computed
+ * again, and the signature is not checked. 10: buffer_len is not 256; 12, 26, 27 as above. */
+uint32_t frondicare_write_header(uint8_t *buffer, size_t buffer_len, frondicare_fields fields,
+                                 const uint8_t *firmware, size_t firmware_len,
+                                 const uint8_t *custom, size_t custom_len,
+                                 const uint8_t hint[32], const uint8_t signature[64]);
 
 #ifdef __cplusplus
 }

@@ -1,43 +1,60 @@
-//! The digest of one 256 KiB image, the library's against a plain Rust one: the same bytes, both optimized, in one process,
-//! turn about, the median of 21 runs each. Neither buffer is cleared between runs. Prints the times and their ratio.
-use frondicare_tests::{frondicare, sha256};
+//! The library's calls against plain Rust ones: the same bytes, both optimized, in one process, turn about, the median
+//! of 21 runs each. No buffer is cleared between runs. Prints the times of a call and their ratio.
+mod compare;
+
+use compare::compare;
+use frondicare_tests::frondicare::{self, PAINT};
+use frondicare_tests::writer::{self, Fields, Parts};
+use frondicare_tests::{header, sha256};
 use std::hint::black_box;
-use std::time::Instant;
 
-const RUNS: usize = 21;
+const FIELDS: Fields = Fields { version: 5, timestamp: 1_700_000_000, firmware_type: 0x0201 };
+const HINT: [u8; 32] = [0x11; 32];
+const SIGNATURE: [u8; 64] = [0x22; 64];
 
-fn median(mut times: Vec<f64>) -> f64 {
-    times.sort_by(f64::total_cmp);
-    times[times.len() / 2]
+fn pattern(n: u32) -> Vec<u8> {
+    (0..n).map(|i| (i.wrapping_mul(2654435761) >> 24) as u8).collect()
 }
 
-fn seconds<T>(work: impl FnOnce() -> T) -> f64 {
-    let start = Instant::now();
-    black_box(work());
-    start.elapsed().as_secs_f64()
+fn parts(firmware: &[u8]) -> Parts<'_> {
+    Parts { fields: FIELDS, firmware, custom: &[], hint: &HINT }
 }
 
-fn compare(name: &str, image: &[u8], ours: impl Fn() -> (u32, [u8; 32])) {
-    assert_eq!(ours(), (0, sha256::digest(image)));
-    let (mut rust, mut rattle) = (vec![], vec![]);
-    for _ in 0..RUNS {
-        rust.push(seconds(|| sha256::digest(black_box(image))));
-        rattle.push(seconds(&ours));
-    }
-    let (rust, rattle) = (median(rust), median(rattle));
-    println!(
-        "{name}: plain Rust {:.3} ms, proved {:.3} ms, ratio {:.3}",
-        1e3 * rust,
-        1e3 * rattle,
-        rattle / rust
+fn plain_header(firmware: &[u8]) -> (u32, Vec<u8>) {
+    let mut buffer = vec![PAINT; header::SIZE];
+    let number = writer::write_header(&mut buffer, &parts(firmware), &SIGNATURE).err().unwrap_or(0);
+    (number, buffer)
+}
+
+fn digests(image: &[u8]) {
+    let (first, second) = image.split_at(70);
+    let plain = || (0, sha256::digest(black_box(image)));
+    compare("digest, 256 KiB", 1, plain, || frondicare::digest(black_box(image)));
+    compare("digest of two pieces, 70 bytes and the rest", 1, plain, || {
+        frondicare::digest_of_two(black_box(first), black_box(second))
+    });
+}
+
+fn verdict(name: &str, calls: usize, firmware: &[u8]) {
+    let image = [plain_header(firmware).1, firmware.to_vec()].concat();
+    assert_eq!(header::verify(&image, true), Ok(()));
+    compare(
+        name,
+        calls,
+        || header::verify(black_box(&image), true).err().unwrap_or(0),
+        || frondicare::verify(black_box(&image), true),
     );
 }
 
 fn main() {
-    let image: Vec<u8> = (0..256 * 1024u32).map(|i| (i.wrapping_mul(2654435761) >> 24) as u8).collect();
-    let (header, firmware) = image.split_at(70);
-    compare("digest, 256 KiB", &image, || frondicare::digest(black_box(&image)));
-    compare("digest of two pieces, 70 bytes and the rest", &image, || {
-        frondicare::digest_of_two(black_box(header), black_box(firmware))
-    });
+    let firmware = pattern(256 * 1024);
+    digests(&firmware);
+    verdict("verify, image of 256 KiB", 1, &firmware[header::SIZE..]);
+    verdict("verify, 256 bytes of firmware", 2000, &firmware[..256]);
+    compare(
+        "write header, 256 KiB of firmware",
+        1,
+        || plain_header(black_box(&firmware)),
+        || frondicare::write_header(header::SIZE, &parts(black_box(&firmware)), &SIGNATURE),
+    );
 }

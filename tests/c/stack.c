@@ -1,20 +1,31 @@
-/* How much stack a digest takes: each call runs on a stack of its own, painted first, and the paint
- * that is gone is counted. Fails where a digest is wrong or takes more than docs/ARCHITECTURE.md says. */
+/* How much stack a call takes: each runs on a stack of its own, painted first, and the paint that is gone is
+ * counted. Fails where an answer is wrong or a call takes more than docs/ARCHITECTURE.md says. */
 #include "frondicare.h"
 #include <stdio.h>
 #include <string.h>
 #include <ucontext.h>
 
-enum { ROOM = 64 * 1024, PAINT = 0xa5, MOST = 768 };
+enum { ROOM = 64 * 1024, PAINT = 0xa5, MOST_DIGEST = 768, MOST_HEADER = 1536 };
 
 static uint8_t stack[ROOM] __attribute__((aligned(64)));
-static uint8_t message[1000];
+static uint8_t image[256 + 1000];
+static uint8_t *const message = image + 256;
 static uint8_t digest[32];
+static uint32_t number;
 static ucontext_t main_context, call_context;
 
 static void nothing(void) { }
-static void one_piece(void) { frondicare_digest(message, sizeof message, digest); }
-static void two_pieces(void) { frondicare_digest_of_two(message, 70, message + 70, sizeof message - 70, digest); }
+static void one_piece(void) { number = frondicare_digest(message, 1000, digest); }
+static void two_pieces(void) { number = frondicare_digest_of_two(message, 70, message + 70, 930, digest); }
+static void verify(void) { number = frondicare_verify(image, sizeof image, true); }
+
+/* Two custom tags, so that the run is read too. The message stands for hint and signature. */
+static void write_header(void)
+{
+    static const uint8_t custom[10] = { 0x42, 0, 1, 0, 'x', 0x43, 0, 1, 0, 'y' };
+    static const frondicare_fields fields = { 1, 2, 3 };
+    number = frondicare_write_header(image, 256, fields, message, 1000, custom, sizeof custom, message, message);
+}
 
 /* Bytes of the painted stack that a call changed, from its top. */
 static size_t used_by(void (*call)(void))
@@ -32,24 +43,33 @@ static size_t used_by(void (*call)(void))
     return ROOM - clean;
 }
 
-static int report(const char *name, void (*call)(void), size_t base)
+/* 1 where the call refuses or takes more stack than `most`. */
+static int report(const char *name, void (*call)(void), size_t base, size_t most)
+{
+    size_t used = used_by(call) - base;
+    printf("peak stack of %s: %zu bytes\n", name, used);
+    return used > most || number != 0;
+}
+
+static int report_digest(const char *name, void (*call)(void), size_t base)
 {
     /* 1,000 bytes of 'a', by coreutils: head -c 1000 /dev/zero | tr '\0' a | sha256sum */
     static const uint8_t expected[32] = {
         0x41, 0xed, 0xec, 0xe4, 0x2d, 0x63, 0xe8, 0xd9, 0xbf, 0x51, 0x5a, 0x9b, 0xa6, 0x93, 0x2e, 0x1c,
         0x20, 0xcb, 0xc9, 0xf5, 0xa5, 0xd1, 0x34, 0x64, 0x5a, 0xdb, 0x5d, 0xb1, 0xb9, 0x73, 0x7e, 0xa3,
     };
-    size_t used = used_by(call) - base;
-    printf("peak stack of %s: %zu bytes\n", name, used);
-    return used > MOST || memcmp(digest, expected, 32) != 0;
+    int failed = report(name, call, base, MOST_DIGEST);
+    return failed | (memcmp(digest, expected, 32) != 0);
 }
 
 int main(void)
 {
     size_t base = used_by(nothing);
     int failed;
-    memset(message, 'a', sizeof message);
-    failed = report("frondicare_digest", one_piece, base);
-    failed |= report("frondicare_digest_of_two", two_pieces, base);
+    memset(message, 'a', 1000);
+    failed = report_digest("frondicare_digest", one_piece, base);
+    failed |= report_digest("frondicare_digest_of_two", two_pieces, base);
+    failed |= report("frondicare_write_header", write_header, base, MOST_HEADER);
+    failed |= report("frondicare_verify", verify, base, MOST_HEADER);
     return failed;
 }

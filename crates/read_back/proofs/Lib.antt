@@ -3,3 +3,4 @@ pub mod Standing
 pub mod Passing
 pub mod Placed
 pub mod Claim
+pub mod Runs

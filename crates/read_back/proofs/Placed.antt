@@ -91,32 +91,32 @@ module _ (fields : Fields) (firmware custom hint digest signature : List ℕ) wh
       version-at : drop 8 i ≡ version-on
       version-at = rest-at i 4 4 size-on (rw starts) ∙ drop-at (leBytes 4 (length firmware)) version-on 4 (length-le 4 (length firmware))
 
-      version-laid : Laid i 8 16 0x0001 (leBytes 4 (fields .version)) timestamp-on
-      version-laid = laid i 8 16 0x0001 _ _ version-at (rw length-le) (omega arith) (small-type 0x0001 (omega arith) (omega arith))
+      version-laid : Laid i 256 8 16 0x0001 (leBytes 4 (fields .version)) timestamp-on
+      version-laid = laid i 256 8 16 0x0001 _ _ version-at (rw length-le (omega arith)) (rw length-le) (omega arith) (small-type 0x0001 (omega arith) (omega arith))
 
-      timestamp-laid : Laid i 16 28 0x0002 (leBytes 8 (fields .timestamp)) type-on
-      timestamp-laid = laid i 16 28 0x0002 _ _ (version-laid .after) (rw length-le) (omega arith) (small-type 0x0002 (omega arith) (omega arith))
+      timestamp-laid : Laid i 256 16 28 0x0002 (leBytes 8 (fields .timestamp)) type-on
+      timestamp-laid = laid i 256 16 28 0x0002 _ _ (version-laid .after) (rw length-le (omega arith)) (rw length-le) (omega arith) (small-type 0x0002 (omega arith) (omega arith))
 
-      type-laid : Laid i 28 34 0x0030 (leBytes 2 (fields .«firmware_type»)) run-on
-      type-laid = laid i 28 34 0x0030 _ _ (timestamp-laid .after) (rw length-le) (omega arith) (small-type 0x0030 (omega arith) (omega arith))
+      type-laid : Laid i 256 28 34 0x0030 (leBytes 2 (fields .«firmware_type»)) run-on
+      type-laid = laid i 256 28 34 0x0030 _ _ (timestamp-laid .after) (rw length-le (omega arith)) (rw length-le) (omega arith) (small-type 0x0030 (omega arith) (omega arith))
 
       hint-at : drop (34 + length custom) i ≡ hint-on
       hint-at = rest-at i 34 (length custom) run-on (type-laid .after) ∙ drop-at custom hint-on (length custom) refl
 
-      hint-laid : Laid i (34 + length custom) (70 + length custom) 0x0010 hint digest-on
+      hint-laid : Laid i 256 (34 + length custom) (70 + length custom) 0x0010 hint digest-on
       hint-laid =
           let r = run .size in
-          laid i (34 + length custom) (70 + length custom) 0x0010 _ _ hint-at (omega arith) (omega arith) (small-type 0x0010 (omega arith) (omega arith))
+          laid i 256 (34 + length custom) (70 + length custom) 0x0010 _ _ hint-at (omega arith) (omega arith) (omega arith) (small-type 0x0010 (omega arith) (omega arith))
 
-      digest-laid : Laid i (70 + length custom) (106 + length custom) 0x0003 digest signature-on
+      digest-laid : Laid i 256 (70 + length custom) (106 + length custom) 0x0003 digest signature-on
       digest-laid =
           let r = run .size in
-          laid i (70 + length custom) (106 + length custom) 0x0003 _ _ (hint-laid .after) (omega arith) (omega arith) (small-type 0x0003 (omega arith) (omega arith))
+          laid i 256 (70 + length custom) (106 + length custom) 0x0003 _ _ (hint-laid .after) (omega arith) (omega arith) (omega arith) (small-type 0x0003 (omega arith) (omega arith))
 
-      signature-laid : Laid i (106 + length custom) (174 + length custom) 0x0020 signature padding-on
+      signature-laid : Laid i 256 (106 + length custom) (174 + length custom) 0x0020 signature padding-on
       signature-laid =
           let r = run .size in
-          laid i (106 + length custom) (174 + length custom) 0x0020 _ _ (digest-laid .after) (omega arith) (omega arith) (small-type 0x0020 (omega arith) (omega arith))
+          laid i 256 (106 + length custom) (174 + length custom) 0x0020 _ _ (digest-laid .after) (omega arith) (omega arith) (omega arith) (small-type 0x0020 (omega arith) (omega arith))
 
       last-walked : walk i 256 (34 + length custom) ≡ prefixed (lastTags (length custom)) (stopped 25)
       last-walked =
@@ -138,7 +138,7 @@ module _ (fields : Fields) (firmware custom hint digest signature : List ℕ) wh
       past-run : (k : ℕ) → named k ≡ true → firstIn k (map (moved 34) (tagsOf custom) ++ lastTags (length custom)) 25 ≡ firstIn k (lastTags (length custom)) 25
       past-run k m = first-past k m (length custom) 34 (lastTags (length custom)) 0 (tagsOf custom) 25 (run .whole)
 
-      reads : {p q k : ℕ} {c rest : List ℕ} → Laid i p q k c rest → lookup i k ≡ Found (tagOf k p (length c)) → Reads i k p c
+      reads : {p q k : ℕ} {c rest : List ℕ} → Laid i 256 p q k c rest → lookup i k ≡ Found (tagOf k p (length c)) → Reads i k p c
       reads l e = record { found = e; shown = ap (contentOf i) e ∙ l .content }
 
       digest-found : lookup i 0x0003 ≡ Found (tagOf 0x0003 (70 + length custom) 32)

@@ -61,31 +61,32 @@ pub small-type : (k : ℕ) → 0 < k → k < 0xFF → Type-ok k
 small-type k some small = record { fits = omega arith; typed = omega arith; unpadded = omega arith }
 
 -- A tag that is written at place p, with the rest behind it at place q: the walk meets it and goes on behind it, and its content is there.
-pub record Laid (i : List ℕ) (p q k : ℕ) (c rest : List ℕ) : Type 0 where
-  pub walked : walk i 256 p ≡ meets (tagOf k p (length c)) (walk i 256 q)
+pub record Laid (i : List ℕ) (e p q k : ℕ) (c rest : List ℕ) : Type 0 where
+  pub walked : walk i e p ≡ meets (tagOf k p (length c)) (walk i e q)
   pub content : take (length c) (drop (p + 4) i) ≡ c
   pub after : drop q i ≡ rest
 
 pub laid :
-    (i : List ℕ) (p q k : ℕ) (c rest : List ℕ) →
+    (i : List ℕ) (e p q k : ℕ) (c rest : List ℕ) →
     drop p i ≡ tagBytes k c ++ rest →
+    length c < 65536 →
     q ≡ p + 4 + length c →
-    q ≤ 256 →
+    q ≤ e →
     Type-ok k →
-    Laid i p q k c rest
+    Laid i e p q k c rest
 unfolding tagBytes
-laid i p q k c rest e n fits ok =
-    let type-bytes : drop p i ≡ leBytes 2 k ++ (leBytes 2 (length c) ++ (c ++ rest)) = e ∙ simp append-assoc in
+laid i e p q k c rest b s n fits ok =
+    let type-bytes : drop p i ≡ leBytes 2 k ++ (leBytes 2 (length c) ++ (c ++ rest)) = b ∙ simp append-assoc in
     let length-bytes : drop (p + 2) i ≡ leBytes 2 (length c) ++ (c ++ rest) = two-further i p (leBytes 2 k) _ (length-le 2 k) type-bytes in
     let four : p + 4 ≡ p + 2 + 2 = omega arith in
     let there : drop (p + 4) i ≡ c ++ rest = rw four (two-further i (p + 2) (leBytes 2 (length c)) (c ++ rest) (length-le 2 (length c)) length-bytes) in
     let kind : numberAt 2 i p ≡ k = number-at 2 i p k _ (ok .fits) type-bytes in
-    let size : numberAt 2 i (p + 2) ≡ length c = number-at 2 i (p + 2) (length c) _ (omega arith) length-bytes in
+    let size : numberAt 2 i (p + 2) ≡ length c = number-at 2 i (p + 2) (length c) _ s length-bytes in
     let low : byteAt i p ≡ k % 256 = low-byte i p k _ type-bytes in
-    let step : stepAt i 256 p ≡ Met (tagAt i p) =
-    step-met i 256 p (omega arith) (λ f. ok .unpadded (sym low ∙ f)) (λ z. ok .typed (sym kind ∙ z)) in
+    let step : stepAt i e p ≡ Met (tagAt i p) =
+    step-met i e p (omega arith) (λ f. ok .unpadded (sym low ∙ f)) (λ z. ok .typed (sym kind ∙ z)) in
     record {
-      walked = walk-step i 256 p ∙ ap (onStep (walk i 256)) step ∙ rw (kind, size, n);
+      walked = walk-step i e p ∙ ap (onStep (walk i e)) step ∙ rw (kind, size, n);
       content = rw there (take-at c rest (length c) refl);
       after = rw n (rest-at i (p + 4) (length c) _ there ∙ drop-at c rest (length c) refl);
     }

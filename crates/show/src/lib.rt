@@ -12,22 +12,33 @@ pub fn digest(a: Answer) {
     }
     let bytes = a.bytes;
     hex(&bytes);
-    io::write_all(STDOUT_FILENO, b"\n");
 }
 
 // REFUSE and document 01's number.
 pub fn refusal(number: u32) {
     io::write_all(STDOUT_FILENO, b"REFUSE ");
-    io::print_decimal(STDOUT_FILENO, number as u64);
-    io::write_all(STDOUT_FILENO, b"\n");
+    decimal(number as u64);
 }
 
-fn hex(bytes: &[u8; 32]) {
-    for i in 0..32 {
+pub fn decimal(n: u64) {
+    io::print_decimal(STDOUT_FILENO, n);
+    end_line();
+}
+
+// Two hexadecimal digits for each byte.
+pub fn hex(bytes: &[u8]) {
+    let mut i = 0;
+    while i < bytes.len() {
         print_byte(bytes[i]);
+        i += 1;
     }
+    end_line();
 }
 
 fn print_byte(x: u8) {
     io::print_hex(STDOUT_FILENO, x as u64, 2);
+}
+
+fn end_line() {
+    io::write_all(STDOUT_FILENO, b"\n");
 }

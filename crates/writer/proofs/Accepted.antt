@@ -25,7 +25,7 @@ pub record Accepted (firmware custom : List ℕ) : Type 0 where
   pub firmware-ok : Firmware firmware
   pub custom-ok : Custom custom
 
-custom-accepted : (run : List ℕ) → customCheck run ≡ 0 → Custom run
+pub custom-accepted : (run : List ℕ) → customCheck run ≡ 0 → Custom run
 unfolding customCheck
 custom-accepted run =
     by-test (λ (r : ℕ). r ≡ 0 → Custom run) (ltb 82 (length run)) (λ t e. absurd (omega arith))

@@ -32,7 +32,7 @@ module _ (s : List ℕ) (e p : ℕ) where
   step-of : {w : WalkStep} → stepAt s e p ≡ w → goesOn s e p ≡ oneByOne e p (onStep (walk s e) w .tags)
   step-of q = ap (λ (w : Walk). oneByOne e p (w .tags)) (walk-step s e p ∙ ap (onStep (walk s e)) q)
 
-  at-end : e ≤ p → p ≤ e → goesOn s e p ≡ true
+  pub at-end : e ≤ p → p ≤ e → goesOn s e p ≡ true
   unfolding oneByOne
   at-end h l = step-of (step-end s e p h) ∙ eq-eqb p e (omega arith)
 

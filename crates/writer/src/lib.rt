@@ -90,9 +90,9 @@ pub fn write_header(
     if buffer.len() != header::LENGTH {
         return 10;
     }
-    let number = check_fields(firmware, custom);
-    if number != 0 {
-        return number;
+    let refused = check_fields(firmware, custom);
+    if refused != 0 {
+        return refused;
     }
     put_covered(buffer, fields, firmware, custom, hint);
     let end = 70 + custom.len();

@@ -1,4 +1,19 @@
-//! The static library seen from Rust, and an independent implementation to hold it to.
+//! The static library seen from Rust, an independent implementation to hold it to, and random input for both.
+pub mod damage;
 pub mod frondicare;
+pub mod header;
+pub mod images;
 pub mod random;
+pub mod seen;
 pub mod sha256;
+pub mod writer;
+
+/// The name of the test that runs, for what it prints.
+pub fn test_name() -> String {
+    std::thread::current().name().unwrap_or("test").to_string()
+}
+
+/// Bytes as a failed test prints them.
+pub fn hex(bytes: &[u8]) -> String {
+    bytes.iter().map(|byte| format!("{byte:02x}")).collect()
+}

@@ -1,4 +1,4 @@
-//! Seeded random input. The seed is printed, and SEED=.. repeats a run.
+//! Seeded random input. The seed is printed with its test's name, and SEED=.. repeats a run.
 pub struct Random(u64);
 
 impl Random {
@@ -7,7 +7,7 @@ impl Random {
             Ok(text) => text.parse().expect("SEED is a number"),
             Err(_) => std::time::SystemTime::now().duration_since(std::time::UNIX_EPOCH).unwrap().as_nanos() as u64,
         };
-        println!("SEED={seed}");
+        println!("{}: SEED={seed}", crate::test_name());
         Random(seed)
     }
 
@@ -26,6 +26,19 @@ impl Random {
 
     pub fn bytes(&mut self, n: usize) -> Vec<u8> {
         (0..n).map(|_| self.next() as u8).collect()
+    }
+
+    pub fn array<const N: usize>(&mut self) -> [u8; N] {
+        std::array::from_fn(|_| self.next() as u8)
+    }
+
+    pub fn one_of<T: Copy>(&mut self, choices: &[T]) -> T {
+        choices[self.up_to(choices.len() - 1)]
+    }
+
+    /// True in so many of a hundred calls.
+    pub fn percent(&mut self, chance: usize) -> bool {
+        self.up_to(99) < chance
     }
 }
 

@@ -52,25 +52,51 @@ fn block(hash: &mut [u32; 8], bytes: &[u8]) {
     }
 }
 
-/// The whole blocks in place, then the rest with its padding (5.1.1).
-pub fn digest(message: &[u8]) -> [u8; 32] {
-    let mut hash = H0;
-    let blocks = message.chunks_exact(64);
-    let mut rest = blocks.remainder().to_vec();
+/// The whole blocks of a piece, where they lie. Gives back the bytes after them.
+fn blocks<'a>(hash: &mut [u32; 8], piece: &'a [u8]) -> &'a [u8] {
+    let blocks = piece.chunks_exact(64);
+    let rest = blocks.remainder();
     for bytes in blocks {
-        block(&mut hash, bytes);
+        block(hash, bytes);
     }
-    rest.push(0x80);
-    while rest.len() % 64 != 56 {
-        rest.push(0);
-    }
-    rest.extend_from_slice(&(8 * message.len() as u64).to_be_bytes());
-    for bytes in rest.chunks_exact(64) {
-        block(&mut hash, bytes);
-    }
+    rest
+}
+
+/// The last bytes of a message with their padding (5.1.1).
+fn finish(mut hash: [u32; 8], rest: &[u8], length: u64) -> [u8; 32] {
+    let mut last = [0; 128];
+    let end = if rest.len() < 56 { 64 } else { 128 };
+    last[..rest.len()].copy_from_slice(rest);
+    last[rest.len()] = 0x80;
+    last[end - 8..end].copy_from_slice(&(8 * length).to_be_bytes());
+    blocks(&mut hash, &last[..end]);
     let mut out = [0; 32];
     for (bytes, word) in out.chunks_exact_mut(4).zip(hash) {
         bytes.copy_from_slice(&word.to_be_bytes());
     }
     out
+}
+
+pub fn digest(message: &[u8]) -> [u8; 32] {
+    let mut hash = H0;
+    let rest = blocks(&mut hash, message);
+    finish(hash, rest, message.len() as u64)
+}
+
+/// Two pieces as one message. Only the block on their border is copied.
+pub fn digest_of_two(first: &[u8], second: &[u8]) -> [u8; 32] {
+    let mut hash = H0;
+    let length = first.len() as u64 + second.len() as u64;
+    let before = blocks(&mut hash, first);
+    let mut border = [0; 64];
+    let taken = second.len().min(64 - before.len());
+    border[..before.len()].copy_from_slice(before);
+    border[before.len()..][..taken].copy_from_slice(&second[..taken]);
+    let filled = before.len() + taken;
+    if filled < 64 {
+        return finish(hash, &border[..filled], length);
+    }
+    block(&mut hash, &border);
+    let rest = blocks(&mut hash, &second[taken..]);
+    finish(hash, rest, length)
 }

@@ -55,7 +55,9 @@ fn every_cut() {
     for n in [0, 1, 55, 56, 57, 63, 64, 65, 119, 120, 127, 128, 129, 191, 192, 200, 256, 321, 449] {
         let expected = (0, sha256::digest(&message[..n]));
         for cut in 0..=n {
-            assert_eq!(digest_of_two(&message[..cut], &message[cut..n]), expected, "length {n} cut at {cut}");
+            let (first, second) = (&message[..cut], &message[cut..n]);
+            assert_eq!(digest_of_two(first, second), expected, "length {n} cut at {cut}");
+            assert_eq!(sha256::digest_of_two(first, second), expected.1, "length {n} cut at {cut}");
         }
     }
 }

@@ -1,0 +1,23 @@
+-- Every starred case has its answer: the list of the answers is computed, and read case by case.
+-- Assumes nothing.
+use mathlib.Core.List.{List, [], _∷_, map, List·Memᴰ, List·Memᴰ·cases-cons, List·Memᴰ·not-nil}
+use mathlib.Core.Logic.{⊎-elim}
+use mathlib.Core.Path.{_≡_, refl}
+use Rattle.header.specs.Checks.{tagsCheck, headerCheck}
+use Rattle.header.specs.Lookup.{lookup}
+use Rattle.header.specs.Numbers.{numberAt}
+use Rattle.header.specs.Walk.{stepAt, walkIn, walk}
+use Rattle.paper_cases.specs.Cases.{Case, cases, answerTo, Proved}
+
+answered : map (λ (c : Case). answerTo (c .input)) cases ≡ map (λ (c : Case). c .answer) cases
+unfolding numberAt stepAt walkIn walk lookup tagsCheck headerCheck
+answered = refl
+
+-- where two maps of a list are equal, the functions are at each of its elements
+agree : {A B : Type 0} (f g : A → B) (l : List A) → map f l ≡ map g l → (x : A) → List·Memᴰ x l → f x ≡ g x
+agree f g [] e x m = absurd (List·Memᴰ·not-nil m)
+agree f g (y ∷ l) e x m =
+    ⊎-elim (λ q. let h : f y ≡ g y = cc in cc) (λ r. agree f g l (cc) x r) (List·Memᴰ·cases-cons m)
+
+pub proved : Proved
+proved = agree (λ (c : Case). answerTo (c .input)) (λ (c : Case). c .answer) cases answered

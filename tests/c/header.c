@@ -1,0 +1,91 @@
+/* The C header as a loader uses it: writes a header, verifies the image, finds its tags, and sees that a
+ * refused call leaves its buffer. Says which check failed. */
+#include "frondicare.h"
+#include <stdio.h>
+#include <string.h>
+
+enum { HEADER = 256, FIRMWARE = 1000, PAINT = 0xa5 };
+
+static const frondicare_fields fields = { 0x01020304, 0x1112131415161718, 0x2122 };
+static const uint8_t custom[] = { 0x42, 0x00, 0x03, 0x00, 'a', 'b', 'c' };
+static const uint8_t padding[] = { 0xff };
+static uint8_t image[HEADER + FIRMWARE];
+static uint8_t hint[32], signature[64];
+static int checks, failures;
+
+static void check(bool right, const char *what)
+{
+    checks++;
+    if (!right) {
+        failures++;
+        printf("FAILED %s\n", what);
+    }
+}
+
+static uint32_t write_header(uint8_t *buffer, size_t length, const uint8_t *run, size_t run_length)
+{
+    return frondicare_write_header(buffer, length, fields, image + HEADER, FIRMWARE, run, run_length, hint, signature);
+}
+
+/* A tag is found at its place, and its content is this. */
+static bool found(uint16_t type, size_t at, const void *content, size_t length)
+{
+    frondicare_tag tag = frondicare_find_tag(image, sizeof image, type);
+    return tag.number == 0 && tag.at == at && tag.len == length && memcmp(image + tag.at, content, length) == 0;
+}
+
+static void written_and_read(void)
+{
+    static const uint8_t version[] = { 0x04, 0x03, 0x02, 0x01 };
+    static const uint8_t timestamp[] = { 0x18, 0x17, 0x16, 0x15, 0x14, 0x13, 0x12, 0x11 };
+    static const uint8_t type[] = { 0x22, 0x21 };
+    uint8_t digest[32];
+    frondicare_tag absent;
+    uint32_t to_sign =
+        frondicare_digest_to_sign(fields, image + HEADER, FIRMWARE, custom, sizeof custom, hint, digest);
+    check(to_sign == 0, "to sign");
+    check(write_header(image, HEADER, custom, sizeof custom) == 0, "write");
+    check(frondicare_verify(image, sizeof image, true) == 0, "verify");
+    check(frondicare_verify(image, sizeof image, false) == 18, "verify without a signature");
+    check(frondicare_verify(image, sizeof image - 1, true) == 12, "verify a cut image");
+    check(found(0x0001, 12, version, sizeof version), "version");
+    check(found(0x0002, 20, timestamp, sizeof timestamp), "timestamp");
+    check(found(0x0030, 32, type, sizeof type), "firmware type");
+    check(found(0x0042, 38, "abc", 3), "custom tag");
+    check(found(0x0003, 81, digest, sizeof digest), "the digest to sign is the one in the header");
+    check(found(0x0020, 117, signature, sizeof signature), "signature");
+    absent = frondicare_find_tag(image, HEADER, 0x0043);
+    check(absent.number == 25 && absent.at == 0 && absent.len == 0, "absent tag");
+    image[HEADER] ^= 1;
+    check(frondicare_verify(image, sizeof image, true) == 17, "verify damaged firmware");
+    image[HEADER] ^= 1;
+}
+
+static void refused(void)
+{
+    uint8_t buffer[HEADER + 1], untouched[HEADER + 1], digest[32];
+    memset(buffer, PAINT, sizeof buffer);
+    memset(untouched, PAINT, sizeof untouched);
+    memset(digest, PAINT, sizeof digest);
+    check(write_header(buffer, HEADER - 1, custom, 0) == 10, "buffer too short");
+    check(write_header(buffer, HEADER + 1, custom, 0) == 10, "buffer too long");
+    check(frondicare_write_header(buffer, HEADER, fields, image, 0, custom, 0, hint, signature) == 12, "no firmware");
+    check(write_header(buffer, HEADER, image, 83) == 26, "83 custom bytes");
+    check(write_header(buffer, HEADER, padding, 1) == 27, "padding in the custom run");
+    check(frondicare_digest_to_sign(fields, image, 1, padding, 1, hint, digest) == 27, "to sign, padding");
+    check(memcmp(buffer, untouched, sizeof buffer) == 0, "buffer after refusals");
+    check(memcmp(digest, untouched, sizeof digest) == 0, "digest after a refusal");
+}
+
+int main(void)
+{
+    size_t i;
+    for (i = 0; i < FIRMWARE; i++)
+        image[HEADER + i] = (uint8_t)(7 * i);
+    memset(hint, 0x33, sizeof hint);
+    memset(signature, 0x44, sizeof signature);
+    written_and_read();
+    refused();
+    printf("C header: %d checks, %d failed\n", checks, failures);
+    return failures != 0;
+}

@@ -1,0 +1,77 @@
+#!/usr/bin/env python3
+"""Writes the files of the program header_cases with an implementation written from document 01 alone, header_rules.py.
+The cases stand beside it, with the answers that document 01 states or that a reader of it can write down, and the
+implementation is held to those first.
+Usage: header.py stdin > crates/header_cases/stdin, and header.py stdout > crates/header_cases/stdout"""
+import struct
+import sys
+
+sys.dont_write_bytecode = True
+import header_lookups
+import header_rules as rules
+import header_verdicts
+import header_writes
+
+CASES = header_lookups.CASES + header_verdicts.CASES + header_writes.CASES
+NUMBERS = [10, 11, 12, 13, 14, 15, 16, 17, 18, 25, 26, 27]
+
+
+def record(case):
+    """The case as the program reads it."""
+    name = case.name.encode("ascii")
+    head = struct.pack("<BBHIIIQHH", ord(case.command), case.signature_ok, case.kind, len(case.body), len(case.custom),
+                       *case.fields, case.buffer_length)
+    parts = case.hint + case.signature if case.command in "DH" else b""
+    return bytes([len(name)]) + name + head + case.body + case.custom + parts
+
+
+def accepted(case):
+    """What the program prints after the name where nothing is refused."""
+    if case.command == "F":
+        return "{} {}".format(*rules.find(case.body, case.kind))
+    if case.command == "W":
+        return rules.view(case.body, case.kind).hex()
+    if case.command == "V":
+        rules.verify(case.body, case.signature_ok)
+        return "PASS"
+    if case.command == "N":
+        return str(rules.version(case.body))
+    if case.command == "D":
+        return rules.digest_to_sign(case.fields, case.body, case.custom, case.hint).hex()
+    buffer = rules.write(case.buffer_length, case.fields, case.body, case.custom, case.hint, case.signature)
+    return f"0 {buffer.hex()}"
+
+
+def answer(case):
+    """The number, and what the program prints after the name."""
+    try:
+        return 0, accepted(case)
+    except rules.Refused as refused:
+        number = refused.args[0]
+        return number, f"{number} {'a5' * case.buffer_length}" if case.command == "H" else f"REFUSE {number}"
+
+
+def check(answers):
+    """Each case answers what it states, each number occurs, and no name occurs twice."""
+    for case, (_, text) in zip(CASES, answers):
+        assert case.says is None or text == case.says, f"{case.name}: {text}, not {case.says}"
+    assert {number for number, _ in answers} == {0, *NUMBERS}
+    names = [case.name for case in CASES]
+    assert len(set(names)) == len(names), [name for name in names if names.count(name) > 1]
+
+
+def main():
+    answers = [answer(case) for case in CASES]
+    check(answers)
+    data = b"".join(map(record, CASES))
+    assert len(data) <= 64000, len(data)
+    if sys.argv[1:] == ["stdin"]:
+        sys.stdout.buffer.write(data)
+    elif sys.argv[1:] == ["stdout"]:
+        for case, (_, text) in zip(CASES, answers):
+            print(f"{case.name}: {text}")
+    else:
+        sys.exit("usage: header.py stdin | stdout")
+
+
+main()

@@ -1,0 +1,89 @@
+"""Cases of lookup and view."""
+from header_case import Case
+from header_rules import HINT, VERSION, tag
+
+FREE = 0x0042
+
+
+def blank(*parts):
+    """A header of FF, with bytes at some places."""
+    header = bytearray(b"\xff" * 256)
+    for place, data in parts:
+        header[place:place + len(data)] = data
+    return bytes(header)
+
+
+def hexed(text):
+    return bytes.fromhex(text)
+
+
+def find(name, header, kind, says):
+    return Case(name, "F", header, says, kind=kind)
+
+
+def view(name, header, kind, says):
+    return Case(name, "W", header, says, kind=kind)
+
+
+VERSION_5 = blank((8, hexed("FF FF 01 00 04 00 05 00 00 00")))
+TWO = blank((8, tag(FREE, b"first") + tag(FREE, b"second")))
+BAD_AFTER = blank((8, tag(FREE, b"ok")), (20, hexed("43 00 FF FF")))
+ENDED = blank((8, tag(FREE, b"ok") + hexed("00 00 03 00") + tag(VERSION, b"late")))
+
+# Document 01's bench cases, with the answers that it states.
+BENCH = [
+    find("version after padding", VERSION_5, VERSION, "14 4"),
+    view("version's value", VERSION_5, VERSION, "05000000"),
+    find("tag at 252 of length 0 fits", blank((252, hexed("42 00 00 00"))), FREE, "256 0"),
+    find("tag at 252 of length 1", blank((252, hexed("42 00 01 00"))), FREE, "REFUSE 13"),
+    find("byte 01 at 253", blank((253, b"\x01")), FREE, "REFUSE 13"),
+    find("byte 00 at 253", blank((253, b"\x00")), FREE, "REFUSE 13"),
+]
+CASES = BENCH + [
+    find("bytes 00 00 from 254", blank((254, b"\x00\x00")), FREE, "REFUSE 13"),
+    find("byte 00 at 255", blank((255, b"\x00")), FREE, "REFUSE 13"),
+    find("type 0000 at 252 ends the walk", blank((252, hexed("00 00 01 00"))), FREE, "REFUSE 25"),
+    find("all padding", blank(), FREE, "REFUSE 25"),
+    find("tag at 8", blank((8, tag(FREE, b"abc"))), FREE, "12 3"),
+    find("tag at 251 of length 1 fits", blank((251, tag(FREE, b"x"))), FREE, "255 1"),
+    find("tag at 8 up to 256 fits", blank((8, tag(FREE, bytes(244)))), FREE, "12 244"),
+    find("tag at 8 of length 245", blank((8, hexed("42 00 F5 00"))), FREE, "REFUSE 13"),
+    find("length's high byte counts", blank((8, hexed("42 00 00 01"))), FREE, "REFUSE 13"),
+    find("greatest length", blank((8, hexed("42 00 FF FF"))), FREE, "REFUSE 13"),
+    find("type 0100 is ordinary", blank((8, tag(0x0100, b"ab"))), 0x0100, "12 2"),
+    find("type FF34 is ordinary", blank((8, tag(0xFF34, b"ab"))), 0xFF34, "12 2"),
+    find("type 34FF is padding, then 0034", blank((8, hexed("FF 34 00 02 00"))), 0x0034, "13 2"),
+    find("type 34FF is not found", blank((8, hexed("FF 34 00 02 00"))), 0x34FF, "REFUSE 25"),
+    find("type 01FF is padding, then version", blank((8, hexed("FF 01 00 04 00"))), VERSION, "13 4"),
+    find("type 01FF is not found", blank((8, hexed("FF 01 00 04 00"))), 0x01FF, "REFUSE 25"),
+    find("type FF01 isn't version", blank((8, hexed("01 FF 04 00"))), VERSION, "REFUSE 25"),
+    find("first match", TWO, FREE, "12 5"),
+    view("view of the first match", TWO, FREE, b"first".hex()),
+    find("match after another tag", blank((8, tag(HINT, bytes(32)) + tag(FREE, b"x"))), FREE, "48 1"),
+    find("match between paddings", blank((100, tag(VERSION, b"v")), (120, tag(FREE, b"xyz"))), FREE, "124 3"),
+    find("type within a content is not found", blank((8, tag(FREE, tag(VERSION, b"1234")))), VERSION, "REFUSE 25"),
+    find("padding within a content is content", blank((8, tag(FREE, b"\xff" * 9) + tag(HINT, b"h"))), HINT, "25 1"),
+    find("tags of length 0 in a row", blank((8, tag(FREE, b"") + tag(HINT, b"") + tag(FREE, b""))), HINT, "16 0"),
+    find("bad tag after the match isn't met", BAD_AFTER, FREE, "12 2"),
+    find("bad tag before the match", BAD_AFTER, HINT, "REFUSE 13"),
+    find("bad tag of the type itself", BAD_AFTER, 0x0043, "REFUSE 13"),
+    find("match before type 0000", ENDED, FREE, "12 2"),
+    find("tag after type 0000 isn't met", ENDED, VERSION, "REFUSE 25"),
+    find("lookup of 0000 where it ends the walk", ENDED, 0x0000, "REFUSE 25"),
+    find("lookup of 0000 in padding", blank(), 0x0000, "REFUSE 25"),
+    find("lookup of 0000 meets a bad tag", BAD_AFTER, 0x0000, "REFUSE 13"),
+    find("lookup of FFFF in padding", blank(), 0xFFFF, "REFUSE 25"),
+    find("lookup of 00FF meets a bad tag", BAD_AFTER, 0x00FF, "REFUSE 13"),
+    find("empty header", b"", FREE, "REFUSE 10"),
+    find("header of 255 bytes", blank((8, tag(FREE, b"abc")))[:255], FREE, "REFUSE 10"),
+    find("header of 300 bytes", blank((250, tag(FREE, b"ab"))) + bytes(44), FREE, "254 2"),
+    find("tag past 256 in a longer header", blank((250, hexed("42 00 03 00"))) + bytes(44), FREE, "REFUSE 13"),
+    find("tag's type across 256 in a longer header", blank((253, b"\x42\x00\x01")) + bytes(44), FREE, "REFUSE 13"),
+    find("tag at 256 in a longer header", blank() + tag(FREE, b"abc") + bytes(37), FREE, "REFUSE 25"),
+    view("view of a tag of length 0 is empty", blank((8, tag(FREE, b""))), FREE, ""),
+    view("view of a tag at 252 is empty", blank((252, tag(FREE, b""))), FREE, ""),
+    view("view of an absent tag is empty", blank(), FREE, ""),
+    view("view behind a bad tag is empty", BAD_AFTER, HINT, ""),
+    view("view of a short header is empty", TWO[:255], FREE, ""),
+    view("view up to 256", blank((250, tag(FREE, b"\x01\x02"))), FREE, "0102"),
+]

@@ -1,0 +1,148 @@
+"""Cases of the verdict, and of the version of an image that passes checks 10 to 16."""
+import hashlib
+import struct
+
+from header_case import Case
+from header_rules import DIGEST, FIRMWARE_TYPE, HINT, MARK, SIGNATURE, TIMESTAMP, VERSION, tag
+
+FIRMWARE = bytes(range(0x11, 0x19))
+PAD = b"\xff"
+V, T, D = tag(VERSION, b"\x05\x00\x00\x00"), tag(TIMESTAMP, bytes(8)), tag(DIGEST, bytes(32))
+S, Y, H = tag(SIGNATURE, b"s" * 64), tag(FIRMWARE_TYPE, b"\x01\x00"), tag(HINT, b"h" * 32)
+C = tag(0x0042, b"custom")
+BAD = b"\x42\x00\xff\x00"
+NAMES = {V: "version", T: "timestamp", D: "digest", S: "signature", Y: "firmware type"}
+
+
+def image(*tags, firmware=FIRMWARE, size=None):
+    """An image with these tags in a row. The first digest tag gets the right content."""
+    size = len(firmware) if size is None else size
+    header = (MARK + struct.pack("<I", size) + b"".join(tags)).ljust(256, PAD)
+    place = header.find(D)
+    if place >= 0:
+        digest = hashlib.sha256(header[:place] + firmware[:size]).digest()
+        header = header[:place + 4] + digest + header[place + 36:]
+    return header[:256] + firmware
+
+
+def changed(data, place, value):
+    return data[:place] + bytes([value]) + data[place + 1:]
+
+
+def sized(data, size):
+    return data[:4] + struct.pack("<I", size) + data[8:]
+
+
+def verify(name, data, says, signature_ok=1):
+    says = says if says == "PASS" else f"REFUSE {says}"
+    return Case(name, "V", data, says, signature_ok=signature_ok)
+
+
+def version(name, data, says):
+    return Case(name, "N", data, says)
+
+
+def longer(data):
+    """A tag with one byte more of content."""
+    return tag(int.from_bytes(data[:2], "little"), data[4:] + b"\x00")
+
+
+def shorter(data):
+    return tag(int.from_bytes(data[:2], "little"), data[4:-1])
+
+
+def without(data):
+    return [other for other in (V, T, Y, D, S) if other != data]
+
+
+def in_place_of(data, *others):
+    return [x for kept in (V, T, Y, D, S) for x in (others if kept == data else [kept])]
+
+
+def each_mandatory():
+    cases = []
+    for data, name in NAMES.items():
+        cases += [
+            verify(f"{name} missing", image(*without(data)), 14),
+            verify(f"{name} repeated", image(V, T, Y, D, S, data), 15),
+            verify(f"{name} too short", image(*in_place_of(data, shorter(data))), 16),
+            verify(f"{name} too long", image(*in_place_of(data, longer(data))), 16),
+            verify(f"{name} repeated and too short", image(*in_place_of(data, shorter(data), data)), 15),
+        ]
+    return cases
+
+
+PLAIN = image(V, T, Y, H, D, S)
+HALF = image(V, T, Y, D, S, firmware=bytes(256))
+# Document 01's bench cases, in an image of 512 bytes, with the answers that it states.
+BENCH = [
+    verify("size 256 in 512 bytes fits", HALF, "PASS"),
+    verify("size 257 in 512 bytes", sized(HALF, 257), 12),
+    verify("size 0 in 512 bytes", sized(HALF, 0), 12),
+]
+REFUSED = [
+    verify("empty image", b"", 10),
+    verify("image of 255 bytes", PLAIN[:255], 10),
+    verify("10 before 11", bytes(255), 10),
+    *[verify(f"mark wrong at {i}", changed(PLAIN, i, PLAIN[i] ^ 0x20), 11) for i in range(4)],
+    verify("11 before 12", sized(changed(PLAIN, 0, 0), 0), 11),
+    verify("no firmware byte", PLAIN[:256], 12),
+    verify("firmware cut by one", PLAIN[:-1], 12),
+    verify("size that wraps to 0 with 256", sized(PLAIN, 0xFFFFFF00), 12),
+    verify("greatest size", sized(PLAIN, 0xFFFFFFFF), 12),
+    verify("12 before 13", sized(image(BAD), 0), 12),
+    verify("13 before 14", image(BAD), 13),
+    verify("bad tag after the mandatory ones", image(V, T, Y, D, S, BAD), 13),
+    verify("image with byte 00 at 253", changed(PLAIN, 253, 0), 13),
+    verify("signature passes 256 by one", image(V, T, Y, D, PAD * 119, S), 13),
+    verify("no tags", image(), 14),
+    verify("mandatory tag after type 0000", image(V, T, Y, D, bytes(4), S), 14),
+    verify("type FF01 in place of version", image(changed(V, 1, 0xFF), T, Y, D, S), 14),
+    verify("version too short before timestamp missing", image(shorter(V), Y, D, S), 16),
+    verify("version repeated before timestamp missing", image(V, V, Y, D, S), 15),
+    verify("timestamp missing before signature repeated", image(V, Y, D, S, S), 14),
+    verify("timestamp too long before digest repeated", image(V, longer(T), Y, D, D, S), 16),
+    verify("signature repeated before firmware type missing", image(V, T, D, S, S), 15),
+    verify("digest too short before signature missing", image(V, T, Y, shorter(D)), 16),
+    verify("16 before 18", image(V, T, shorter(Y), D, S), 16, signature_ok=0),
+    verify("firmware's first byte differs", changed(PLAIN, 256, 0), 17),
+    verify("firmware's last byte differs", changed(PLAIN, 263, 0), 17),
+    verify("version differs from the digested one", changed(PLAIN, 12, 6), 17),
+    verify("digest's first byte differs", changed(PLAIN, 74, PLAIN[74] ^ 1), 17),
+    verify("digest's last byte differs", changed(PLAIN, 105, PLAIN[105] ^ 0x80), 17),
+    verify("17 before 18", changed(PLAIN, 256, 0), 17, signature_ok=0),
+    verify("signature checker says no", PLAIN, 18, signature_ok=0),
+]
+PASSED = [
+    verify("image as the writer lays it out", PLAIN, "PASS"),
+    verify("one firmware byte", image(V, T, Y, D, S, firmware=b"\x00"), "PASS"),
+    verify("bytes after the firmware", PLAIN + b"after", "PASS"),
+    verify("tags in reverse", image(S, D, H, Y, T, V), "PASS"),
+    verify("digest tag first", image(D, V, T, Y, S), "PASS"),
+    verify("version tag after the digest", image(T, Y, D, S, V), "PASS"),
+    verify("version after the digest isn't digested", changed(image(D, V, T, Y, S), 48, 9), "PASS"),
+    verify("signature isn't digested", changed(PLAIN, 110, 0), "PASS"),
+    verify("padding between tags", image(PAD, V, PAD * 3, T, PAD, Y, PAD * 7, D, PAD * 2, S), "PASS"),
+    verify("signature ends at 256", image(V, T, Y, D, PAD * 118, S), "PASS"),
+    verify("digest ends at 256", image(V, T, Y, S, PAD * 118, D), "PASS"),
+    verify("no hint", image(V, T, Y, D, S), "PASS"),
+    verify("two hints, one of length 1", image(V, T, H, Y, tag(HINT, b"h"), D, S), "PASS"),
+    verify("custom tags before and after the digest", image(C, V, T, Y, C, D, C, S), "PASS"),
+    verify("types 0100 and FF34 carried", image(V, tag(0x0100, b"a"), T, tag(0xFF34, b"b"), Y, D, S), "PASS"),
+    verify("anything after type 0000", image(V, T, Y, D, S, bytes(4), BAD, V), "PASS"),
+]
+VERSIONS = [
+    version("version 5", PLAIN, "5"),
+    version("greatest version", image(tag(VERSION, b"\xff" * 4), T, Y, D, S), "4294967295"),
+    version("version's bytes are little-endian", image(tag(VERSION, b"\x01\x02\x03\x04"), T, Y, D, S), "67305985"),
+    version("version where the digest differs", changed(PLAIN, 256, 0), "5"),
+    version("version after the others", image(S, D, Y, T, V), "5"),
+    version("version of a short image", PLAIN[:255], "REFUSE 10"),
+    version("version where the mark is wrong", changed(PLAIN, 0, 0), "REFUSE 11"),
+    version("version of size 0", sized(PLAIN, 0), "REFUSE 12"),
+    version("version before a bad tag", image(V, T, Y, D, S, BAD), "REFUSE 13"),
+    version("version without a signature tag", image(V, T, Y, D), "REFUSE 14"),
+    version("two versions", image(V, T, Y, D, S, V), "REFUSE 15"),
+    version("version of 5 bytes", image(longer(V), T, Y, D, S), "REFUSE 16"),
+]
+CASES = BENCH + REFUSED + each_mandatory() + PASSED + VERSIONS
