@@ -43,8 +43,8 @@ encoded s p (x ∷ es) (R.one ok a) e n =
     let q : ℕ = p + 4 + length c in
     let m : q + length (encode es) ≡ length s = sym (sum c) ∙ n in
     let l : Laid s (length s) p q k c (encode es) =
-        laid s (length s) p q k c (encode es) e (ok .length-fits) refl (omega arith)
-        (record { fits = ok .kind-fits; typed = ok .typed; unpadded = ok .unpadded }) in
+    laid s (length s) p q k c (encode es) e (ok .length-fits) refl (omega arith)
+    (record { fits = ok .kind-fits; typed = ok .typed; unpadded = ok .unpadded }) in
     rw (l .walked) (simp (eq-eqb (p + 4) (p + 4) refl, ok .unnamed) (encoded s q es a (l .after) m))
   where
     sum : (c : List ℕ) → p + length (tagBytes (x .kind) c ++ encode es) ≡ p + 4 + length c + length (encode es)
@@ -104,13 +104,13 @@ module _ (s : List ℕ) (b : (p : ℕ) → byteAt s p < 256) where
       let l : length c ≡ t .len = length-take-le (t .len) (drop (p + 4) s) (rw length-drop (omega (arith, g .inside))) in
       let e : Entry = record { kind = t .kind; content = c } in
       let ok : Allowed e =
-          record {
-            typed = g .typed;
-            unpadded = λ f. low (sym (low-of p) ∙ ap (λ (k : ℕ). k % 256) (sym kind) ∙ f);
-            unnamed = unnamed;
-            kind-fits = rw kind (two-bytes p);
-            length-fits = rw (l, size) (two-bytes (p + 2));
-          } in
+      record {
+        typed = g .typed;
+        unpadded = λ f. low (sym (low-of p) ∙ ap (λ (k : ℕ). k % 256) (sym kind) ∙ f);
+        unnamed = unnamed;
+        kind-fits = rw kind (two-bytes p);
+        length-fits = rw (l, size) (two-bytes (p + 2));
+      } in
       record {
         entries = e ∷ m .entries;
         allowed = R.one {e = e} ok (m .allowed);
