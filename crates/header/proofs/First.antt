@@ -1,14 +1,14 @@
 -- Laws of a lookup: how it goes on from a step of the walk, and what is known of the tag that it finds.
 -- Assumes nothing.
 use Prim.Native.Nat.{ℕ, _+_, _≤_}
-use mathlib.Core.Bool.{Bool, true, false, cond}
-use mathlib.Core.List.{List, [], _∷_}
+use mathlib.Core.Bool.{true, false}
+use mathlib.Core.List.{List, []}
 use mathlib.Core.Path.{_≡_, refl, ap, subst, _∙_}
 use native.Mathlib.Omega.{arith}
 use lib.Dec.{ltb, eqb}
 use lib.ListN.{length, length-take}
-use borrow.Author.Tests.{le-ltb, ltb-false, ne-eqb}
-use Rattle.header.specs.Lookup.{ofKind, first, lookup, beforeTag, coveredOf}
+use borrow.Author.Tests.{le-ltb, ltb-false}
+use Rattle.header.specs.Lookup.{first, lookup, beforeTag, coveredOf}
 use Rattle.header.specs.Walk.{stepAt, Walk, onStep, walk}
 use Rattle.header.specs.declared.tags.Lookup.the-variants.{Found, Refused}
 use Rattle.header.specs.declared.tags.Lookup.{Lookup}
@@ -49,35 +49,6 @@ found-good s e p k {t} =
     by-test (λ (r : Lookup). r ≡ Found t → Good s e q t) (eqb (u .kind) k)
     (λ b h. let same : u ≡ t = cc in subst (Good s e q) same g)
     (λ b h. later (omega arith) (ih h)))
-    p
-
--- the tags of a type: the one that a lookup finds, and those behind it
-abbrev pub fromFound : List ℕ → ℕ → ℕ → Lookup → List Tag
-fromFound s e k (Found t) = t ∷ ofKind k (walk s e (t .at + t .len) .tags)
-fromFound s e k (Refused n) = []
-
-pub of-kind : (s : List ℕ) (e p k : ℕ) → ofKind k (walk s e p .tags) ≡ fromFound s e k (first k (walk s e p))
-of-kind s e p k =
-    walk-ind s e (λ (q : ℕ) (w : Walk). ofKind k (w .tags) ≡ fromFound s e k (first k w))
-    (λ q n d. refl)
-    (λ q n l m ih. ih)
-    (λ q t g ih. both (eqb (t .kind) k) t (ofKind k (walk s e (t .at + t .len) .tags)) (first k (walk s e (t .at + t .len))) ih)
-    p
-  where
-    both :
-        (b : Bool) (t : Tag) (ts : List Tag) (r : Lookup) →
-        ts ≡ fromFound s e k r →
-        cond b (t ∷ ofKind k (walk s e (t .at + t .len) .tags)) ts ≡ fromFound s e k (cond b (Found t) r)
-    both true t ts r h = refl
-    both false t ts r h = h
-
--- no tag has type 0, so a search for it ends as the walk does
-pub to-end : (s : List ℕ) (e p : ℕ) → first 0 (walk s e p) ≡ Refused (walk s e p .number)
-to-end s e p =
-    walk-ind s e (λ (q : ℕ) (w : Walk). first 0 w ≡ Refused (w .number))
-    (λ q n d. refl)
-    (λ q n l m ih. ih)
-    (λ q t g ih. simp (ne-eqb (t .kind) 0 (g .typed)) ih)
     p
 
 -- a header that is long enough is walked

@@ -3,4 +3,5 @@ pub mod Tests
 pub mod Walk
 pub mod First
 pub mod Refusals
+pub mod OneWalk
 pub mod Shown

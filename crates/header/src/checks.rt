@@ -1,8 +1,9 @@
 // The checks of an image's header, 10 to 16, and the version of an image that passes them.
+ghost use mathlib.Core.List.{_∷_, []};
 ghost use mathlib.Core.Path.{_≡_};
 ghost use Rattle.header.specs.Walk.{walk};
-ghost use Rattle.header.specs.Lookup.{ofKind};
-ghost use Rattle.header.specs.Checks.{marked, mandatoryCheck, tagsCheck, headerCheck, versionOf};
+ghost use Rattle.header.specs.Checks.{firstOf, marked, walkCheck, tagsCheck, headerCheck, versionOf};
+ghost use Rattle.header.specs.Seen.{numberAfter, seenAfter, firstSeen};
 use crate::DIGEST;
 use crate::FIRMWARE_TYPE;
 use crate::LENGTH;
@@ -12,8 +13,9 @@ use crate::VERSION;
 use crate::number::byte_at;
 use crate::number::u32_at;
 use crate::tags::FIRST;
-use crate::tags::Lookup;
-use crate::tags::find;
+use crate::tags::Tag;
+use crate::tags::WalkStep;
+use crate::tags::walk_step;
 use crate::view;
 
 // The version with the number 0; or the number of the check that the header fails, and 0.
@@ -31,54 +33,88 @@ fn is_marked(image: &[u8]) -> bool
         & (byte_at(image, 3) == 0x46)
 }
 
-// The number with which the walk over all tags ends. No tag has type 0, so a search for it walks to
-// the end.
-fn walk_end(header: &[u8]) -> u32
-    ensures { λ r. ⌜ r ≡ walk (now (header .entry)) 256 8 .number ⌝ }
+// What the walk has met so far of each mandatory type: 14, 15, 16, or 0.
+struct Seen {
+    version: u32,
+    timestamp: u32,
+    digest: u32,
+    signature: u32,
+    firmware_type: u32,
+}
+
+// A type's number after one more tag.
+fn after(number: u32, of_type: bool, of_length: bool) -> u32
+    ensures { λ r. ⌜ r ≡ numberAfter number «of_type» «of_length» ⌝ }
 {
-    match find(header, FIRST, 0) {
-        Lookup::Found(_) => 0,
-        Lookup::Refused(number) => number,
+    if of_type {
+        if number == 14 {
+            if of_length { 0 } else { 16 }
+        } else {
+            15
+        }
+    } else {
+        number
     }
 }
 
-// 14, 15 or 16; or 0 where the header has one tag of this type, and it has this length.
-fn check_kind(header: &[u8], kind: u16, len: usize) -> u32
-    ensures { λ r. ⌜ r ≡ mandatoryCheck len (ofKind kind (walk (now (header .entry)) 256 8 .tags)) ⌝ }
+fn seen_after(s: Seen, t: Tag) -> Seen
+    ensures { λ r. ⌜ r ≡ seenAfter s t ⌝ }
 {
-    match find(header, FIRST, kind) {
-        Lookup::Found(t) => {
-            let next = t.at + t.len;
-            match find(header, next, kind) {
-                Lookup::Found(_) => 15,
-                Lookup::Refused(_) => { if t.len == len { 0 } else { 16 } }
-            }
-        }
-        Lookup::Refused(_) => 14,
+    Seen {
+        version: after(s.version, t.kind == VERSION, t.len == 4),
+        timestamp: after(s.timestamp, t.kind == TIMESTAMP, t.len == 8),
+        digest: after(s.digest, t.kind == DIGEST, t.len == 32),
+        signature: after(s.signature, t.kind == SIGNATURE, t.len == 64),
+        firmware_type: after(s.firmware_type, t.kind == FIRMWARE_TYPE, t.len == 2),
     }
 }
 
 // The mandatory types, in document 01's order.
-fn check_tags(header: &[u8]) -> u32
-    ensures { λ r. ⌜ r ≡ tagsCheck (walk (now (header .entry)) 256 8 .tags) ⌝ }
+fn first_of(s: Seen) -> u32
+    ensures { λ r. ⌜ r ≡ firstSeen s ⌝ }
 {
-    let version = check_kind(header, VERSION, 4);
-    if version != 0 {
-        return version;
+    if s.version != 0 {
+        return s.version;
     }
-    let timestamp = check_kind(header, TIMESTAMP, 8);
-    if timestamp != 0 {
-        return timestamp;
+    if s.timestamp != 0 {
+        return s.timestamp;
     }
-    let digest = check_kind(header, DIGEST, 32);
-    if digest != 0 {
-        return digest;
+    if s.digest != 0 {
+        return s.digest;
     }
-    let signature = check_kind(header, SIGNATURE, 64);
-    if signature != 0 {
-        return signature;
+    if s.signature != 0 {
+        return s.signature;
     }
-    check_kind(header, FIRMWARE_TYPE, 2)
+    s.firmware_type
+}
+
+// 13 to 16, or 0, in one walk over the tags.
+fn check_tags(header: &[u8]) -> u32
+    ensures { λ r. ⌜ r ≡ firstOf (walkCheck (walk (now (header .entry)) 256 8 .number) ∷ tagsCheck (walk (now (header .entry)) 256 8 .tags) ∷ []) ⌝ }
+{
+    let mut seen = Seen {
+        version: 14,
+        timestamp: 14,
+        digest: 14,
+        signature: 14,
+        firmware_type: 14,
+    };
+    let mut p = FIRST;
+    loop {
+        match walk_step(header, LENGTH, p) {
+            WalkStep::Stop(number) => {
+                if number == 13 {
+                    return 13;
+                }
+                return first_of(seen);
+            }
+            WalkStep::Padding(next) => p = next,
+            WalkStep::Met(t) => {
+                seen = seen_after(seen, t);
+                p = t.at + t.len;
+            }
+        }
+    }
 }
 
 // The number of the first of the checks 10 to 16 that an image's header fails, or 0.
@@ -95,9 +131,6 @@ pub fn check(image: &[u8]) -> u32
         }
         if image.len() - LENGTH < size {
             return 12;
-        }
-        if walk_end(image) == 13 {
-            return 13;
         }
         return check_tags(image);
     }

@@ -3,7 +3,6 @@ use borrow.Author.Needs.{needs}
 use borrow.Author.Tests.{le-ltb, eq-eqb, ne-eqb}
 use Rattle.header.specs.Checks.{headerCheck}
 use Rattle.header.proofs.Numbers.{too-narrow, wide-enough}
-use Rattle.header.proofs.Refusals.{first-one}
 use Rattle.header.proofs.Tests.{tests}
 use Rattle.header.proofs.checks.check.Statement.{statement}
 use Rattle.header.proofs.checks.check.Tie as tie
@@ -39,37 +38,20 @@ returns-4 : tie.Need-returns-4
 unfolding headerCheck
 returns-4 c =
     rw (
-      le-ltb _ 256 (c .before .before .before .before .before .before .before .if1 .left),
-      ← c .before .before .before .before .before .before .is-marked .ensures,
-      c .before .before .before .before .before .if2 .taken,
-      ← c .before .before .before .before .u32-at .ensures,
-      ne-eqb _ _ (c .before .before .before .if3 .left),
-      wide-enough _ 256 _ (omega arith) (c .before .before .if4 .left),
-      ← c .before .walk-end .ensures,
-      eq-eqb _ _ (c .if5 .taken),
+      le-ltb _ 256 (c .before .before .before .before .before .before .if1 .left),
+      ← c .before .before .before .before .before .is-marked .ensures,
+      c .before .before .before .before .if2 .taken,
+      ← c .before .before .before .u32-at .ensures,
+      ne-eqb _ _ (c .before .before .if3 .left),
+      wide-enough _ 256 _ (omega arith) (c .before .if4 .left),
+      c .check-tags .ensures,
     )
 
 returns-5 : tie.Need-returns-5
 unfolding headerCheck
-returns-5 c =
-    rw (
-      le-ltb _ 256 (c .before .before .before .before .before .before .before .before .if1 .left),
-      ← c .before .before .before .before .before .before .before .is-marked .ensures,
-      c .before .before .before .before .before .before .if2 .taken,
-      ← c .before .before .before .before .before .u32-at .ensures,
-      ne-eqb _ _ (c .before .before .before .before .if3 .left),
-      wide-enough _ 256 _ (omega arith) (c .before .before .before .if4 .left),
-      ← c .before .before .walk-end .ensures,
-      ne-eqb _ _ (c .before .if5 .left),
-      ← c .check-tags .ensures,
-      first-one,
-    )
-
-returns-6 : tie.Need-returns-6
-unfolding headerCheck
-returns-6 c = rw (le-ltb _ 256 (c .before .before .if1 .left), ← c .before .is-marked .ensures, c .if2 .left)
+returns-5 c = rw (le-ltb _ 256 (c .before .before .if1 .left), ← c .before .is-marked .ensures, c .if2 .left)
 
 pub check-spec : {M : Type 1} → statement M
 check-spec =
     tie.close (tie.spec returns (λ c κs. search needs) (λ c κs. search needs) (λ c. search needs) returns-2 (λ c. search needs)
-    returns-3 (λ c κs. search needs) returns-4 (λ c κs. search needs) returns-5 returns-6)
+    returns-3 (λ c κs. search needs) returns-4 returns-5)

@@ -1,0 +1,29 @@
+use Rattle.header.specs.Seen.{firstSeen}
+use Rattle.header.proofs.Refusals.{first-one}
+use Rattle.header.proofs.Tests.{tests}
+use Rattle.header.proofs.checks.first_of.Statement.{statement}
+use Rattle.header.proofs.checks.first_of.Tie as tie
+
+returns : tie.Need-returns
+unfolding firstSeen
+returns c = search tests
+
+returns-2 : tie.Need-returns-2
+unfolding firstSeen
+returns-2 c = search tests
+
+returns-3 : tie.Need-returns-3
+unfolding firstSeen
+returns-3 c = search tests
+
+returns-4 : tie.Need-returns-4
+unfolding firstSeen
+returns-4 c = search tests
+
+returns-5 : tie.Need-returns-5
+unfolding firstSeen
+returns-5 c = search (tests, first-one)
+
+pub first-of-spec : {M : Type 1} → statement M
+first-of-spec =
+    tie.close (tie.spec returns returns-2 returns-3 returns-4 returns-5)
