@@ -65,8 +65,8 @@ agrees h k =
     record {
       found = λ t ts l e. long-enough h k l ∙ head-of k (walk h 256 8 .tags) (walk h 256 8 .number) ∙ rw e;
       absent = λ l e. long-enough h k l ∙ head-of k (walk h 256 8 .tags) (walk h 256 8 .number) ∙ rw e;
-      never-ended = λ t z e. looked-up h k e .good .typed (of-type t e ∙ z);
-      never-padded = λ t bytes f e.
+      never-0000 = λ t z e. looked-up h k e .good .typed (of-type t e ∙ z);
+      never-low-FF = λ t bytes f e.
           let g = looked-up h k e .good in
           g .unpadded (sym (low-byte h (t .at - 4) (bytes _)) ∙ ap (λ (t : Tag). t .kind % 256) (sym (g .is)) ∙ ap (λ (n : ℕ). n % 256) (of-type t e) ∙ f);
     }

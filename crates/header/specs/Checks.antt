@@ -6,6 +6,7 @@ use lib.Dec.{ltb, eqb}
 use lib.ListN.{length}
 use Rattle.header.specs.Lookup.{viewOf, ofKind}
 use Rattle.header.specs.Numbers.{byteAt, numberAt}
+use Rattle.header.specs.Types.{versionType, timestampType, digestType, signatureType, firmwareType}
 use Rattle.header.specs.Walk.{walk}
 use Rattle.header.specs.declared.checks.Version.{Version}
 use Rattle.header.specs.declared.tags.Tag.{Tag}
@@ -42,14 +43,14 @@ mandatoryCheck n [] = 14
 mandatoryCheck n (t ∷ []) = cond (eqb (t .len) n) 0 16
 mandatoryCheck n (t ∷ (u ∷ ts)) = 15
 
--- version, timestamp, digest, signature, firmware type
+-- the mandatory types and their lengths
 abbrev pub mandatory : List (record { kind : ℕ; len : ℕ })
 mandatory =
-    record { kind = 0x0001; len = 4 }
-    ∷ record { kind = 0x0002; len = 8 }
-    ∷ record { kind = 0x0003; len = 32 }
-    ∷ record { kind = 0x0020; len = 64 }
-    ∷ record { kind = 0x0030; len = 2 }
+    record { kind = versionType; len = 4 }
+    ∷ record { kind = timestampType; len = 8 }
+    ∷ record { kind = digestType; len = 32 }
+    ∷ record { kind = signatureType; len = 64 }
+    ∷ record { kind = firmwareType; len = 2 }
     ∷ []
 
 unfoldable pub tagsCheck : List Tag → ℕ
@@ -69,4 +70,4 @@ headerCheck i =
 -- the version of an image whose header passes; a refusal gives its number and nothing else
 unfoldable pub versionOf : List ℕ → Version
 versionOf i =
-    record { number = headerCheck i; version = cond (eqb (headerCheck i) 0) (numberAt 4 (viewOf i 0x0001) 0) 0 }
+    record { number = headerCheck i; version = cond (eqb (headerCheck i) 0) (numberAt 4 (viewOf i versionType) 0) 0 }

@@ -6,6 +6,7 @@ use mathlib.Core.Path.{_≡_}
 use lib.Dec.{ltb, eqb}
 use lib.ListN.{length, take, drop}
 use Rattle.header.specs.Numbers.{byteAt}
+use Rattle.header.specs.Types.{digestType}
 use Rattle.header.specs.Walk.{Walk, walk}
 use Rattle.header.specs.declared.tags.Lookup.the-variants.{Found, Refused}
 use Rattle.header.specs.declared.tags.Lookup.{Lookup}
@@ -24,11 +25,6 @@ first k w = firstIn k (w .tags) (w .number)
 unfoldable pub lookup : List ℕ → ℕ → Lookup
 lookup h k = cond (ltb (length h) 256) (Refused 10) (first k (walk h 256 8))
 
--- document 01's number for a lookup, 0 where it found a tag
-abbrev pub number : Lookup → ℕ
-number (Found t) = 0
-number (Refused n) = n
-
 -- what a tag's view shows of the header; the empty part where lookup refuses
 abbrev pub contentOf : List ℕ → Lookup → List ℕ
 contentOf h (Found t) = take (t .len) (drop (t .at) h)
@@ -44,7 +40,7 @@ beforeTag h (Refused n) = []
 
 -- what the digest covers of the header: up to the type of the first digest tag
 abbrev pub coveredOf : List ℕ → List ℕ
-coveredOf h = beforeTag h (lookup h 0x0003)
+coveredOf h = beforeTag h (lookup h digestType)
 
 -- the tags of type k, in order
 abbrev pub ofKind : ℕ → List Tag → List Tag
@@ -56,5 +52,5 @@ ofKind k (t ∷ ts) = cond (eqb (t .kind) k) (t ∷ ofKind k ts) (ofKind k ts)
 pub record Agrees (h : List ℕ) (k : ℕ) : Type 0 where
   pub found : (t : Tag) (ts : List Tag) → 256 ≤ length h → ofKind k (walk h 256 8 .tags) ≡ t ∷ ts → lookup h k ≡ Found t
   pub absent : 256 ≤ length h → ofKind k (walk h 256 8 .tags) ≡ [] → lookup h k ≡ Refused (walk h 256 8 .number)
-  pub never-ended : (t : Tag) → k ≡ 0 → lookup h k ≡ Found t → ⊥
-  pub never-padded : (t : Tag) → ((p : ℕ) → byteAt h p < 256) → k % 256 ≡ 0xFF → lookup h k ≡ Found t → ⊥
+  pub never-0000 : (t : Tag) → k ≡ 0 → lookup h k ≡ Found t → ⊥
+  pub never-low-FF : (t : Tag) → ((p : ℕ) → byteAt h p < 256) → k % 256 ≡ 0xFF → lookup h k ≡ Found t → ⊥

@@ -4,6 +4,7 @@ use mathlib.Core.Bool.{Bool, cond}
 use mathlib.Core.List.{[], _∷_}
 use lib.Dec.{eqb}
 use Rattle.header.specs.Checks.{firstOf}
+use Rattle.header.specs.Types.{versionType, timestampType, digestType, signatureType, firmwareType}
 use Rattle.header.specs.declared.checks.Seen.{Seen}
 use Rattle.header.specs.declared.tags.Tag.{Tag}
 
@@ -14,11 +15,11 @@ numberAfter x of-type of-length = cond of-type (cond (eqb x 14) (cond of-length 
 abbrev pub seenAfter : Seen → Tag → Seen
 seenAfter s t =
     record {
-      version = numberAfter (s .version) (eqb (t .kind) 0x0001) (eqb (t .len) 4);
-      timestamp = numberAfter (s .timestamp) (eqb (t .kind) 0x0002) (eqb (t .len) 8);
-      digest = numberAfter (s .digest) (eqb (t .kind) 0x0003) (eqb (t .len) 32);
-      signature = numberAfter (s .signature) (eqb (t .kind) 0x0020) (eqb (t .len) 64);
-      «firmware_type» = numberAfter (s .«firmware_type») (eqb (t .kind) 0x0030) (eqb (t .len) 2);
+      version = numberAfter (s .version) (eqb (t .kind) versionType) (eqb (t .len) 4);
+      timestamp = numberAfter (s .timestamp) (eqb (t .kind) timestampType) (eqb (t .len) 8);
+      digest = numberAfter (s .digest) (eqb (t .kind) digestType) (eqb (t .len) 32);
+      signature = numberAfter (s .signature) (eqb (t .kind) signatureType) (eqb (t .len) 64);
+      «firmware_type» = numberAfter (s .«firmware_type») (eqb (t .kind) firmwareType) (eqb (t .len) 2);
     }
 
 unfoldable pub firstSeen : Seen → ℕ

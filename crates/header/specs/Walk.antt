@@ -10,7 +10,7 @@ use Rattle.header.specs.declared.tags.Tag.{Tag}
 use Rattle.header.specs.declared.tags.WalkStep.the-variants.{Stop, Padding, Met}
 use Rattle.header.specs.declared.tags.WalkStep.{WalkStep}
 
--- the tag whose type stands at place p: type (a kind in the code), then length, then content
+-- the tag at place p: type, then length, then content
 abbrev pub tagAt : List ℕ → ℕ → Tag
 tagAt s p = record { kind = numberAt 2 s p; at = p + 4; len = numberAt 2 s (p + 2) }
 

@@ -6,6 +6,7 @@ use lib.Dec.{eqb}
 use lib.ListN.{take, drop}
 use Rattle.header.specs.Checks.{firstOf, sizeOf, headerCheck}
 use Rattle.header.specs.Lookup.{viewOf, coveredOf}
+use Rattle.header.specs.Types.{digestType}
 use Rattle.sha256.specs.Digest.{digest}
 
 -- whether two lists of bytes are the same
@@ -24,7 +25,7 @@ unfoldable pub digestOf : List ℕ → List ℕ
 digestOf i = digest (coveredOf i ++ firmwareOf i)
 
 abbrev pub digestCheck : List ℕ → ℕ
-digestCheck i = cond (same (viewOf i 0x0003) (digestOf i)) 0 17
+digestCheck i = cond (same (viewOf i digestType) (digestOf i)) 0 17
 
 abbrev pub signatureCheck : Bool → ℕ
 signatureCheck signed = cond signed 0 18

@@ -15,9 +15,9 @@ use borrow.Author.Tests.{le-ltb, eqb-true, eq-eqb}
 use Rattle.header.specs.Numbers.{byteAt, numberAt}
 use Rattle.header.specs.Walk.{tagAt, Walk, walk}
 use Rattle.header.specs.declared.tags.Tag.{Tag}
-use Rattle.header.proofs.Walk.{Good, walk-ind}
 use Rattle.writer.specs.Custom.{named, tagsOf, oneByOne, customCheck}
 use Rattle.writer.specs.Layout.{leBytes, tagBytes}
+use Rattle.header.proofs.Walk.{Good, walk-ind}
 use Rattle.writer.proofs.Accepted.{Custom, custom-accepted}
 use Rattle.writer.proofs.Run.{goesOn, gap, at-end}
 use Rattle.writer.proofs.Stores.{tag-length}

@@ -7,6 +7,7 @@ use lib.ListN.{length, take, drop}
 use Rattle.header.specs.Checks.{versionOf}
 use Rattle.header.specs.Lookup.{lookup, viewOf, ofKind}
 use Rattle.header.specs.Numbers.{numberAt}
+use Rattle.header.specs.Types.{versionType, timestampType, digestType, hintType, signatureType, firmwareType}
 use Rattle.header.specs.Walk.{walk}
 use Rattle.header.specs.declared.tags.Lookup.the-variants.{Found}
 use Rattle.header.specs.declared.tags.Tag.{Tag}
@@ -27,11 +28,11 @@ moved o t = record { kind = t .kind; at = o + t .at; len = t .len }
 -- the tags of a written header in their order, with a run of custom tags
 abbrev pub writtenTags : List ℕ → List Tag
 writtenTags custom =
-    (tagOf 0x0001 8 4 ∷ tagOf 0x0002 16 8 ∷ tagOf 0x0030 28 2 ∷ [])
+    (tagOf versionType 8 4 ∷ tagOf timestampType 16 8 ∷ tagOf firmwareType 28 2 ∷ [])
     ++ (map (moved 34) (tagsOf custom)
-    ++ (tagOf 0x0010 (34 + length custom) 32
-    ∷ tagOf 0x0003 (70 + length custom) 32
-    ∷ tagOf 0x0020 (106 + length custom) 64
+    ++ (tagOf hintType (34 + length custom) 32
+    ∷ tagOf digestType (70 + length custom) 32
+    ∷ tagOf signatureType (106 + length custom) 64
     ∷ []))
 
 abbrev pub contentAt : List ℕ → Tag → List ℕ
@@ -45,12 +46,12 @@ pub record Reads (i : List ℕ) (k p : ℕ) (c : List ℕ) : Type 0 where
 -- what is read in the bytes i, which start with a header that was written
 pub record HeaderReads (fields : Fields) (custom hint digest signature i : List ℕ) : Type 0 where
   pub walked : walk i 256 8 ≡ record { tags = writtenTags custom; number = 25 }
-  pub version-tag : Reads i 0x0001 8 (leBytes 4 (fields .version))
-  pub timestamp-tag : Reads i 0x0002 16 (leBytes 8 (fields .timestamp))
-  pub firmware-type-tag : Reads i 0x0030 28 (leBytes 2 (fields .«firmware_type»))
-  pub hint-tag : Reads i 0x0010 (34 + length custom) hint
-  pub digest-tag : Reads i 0x0003 (70 + length custom) digest
-  pub signature-tag : Reads i 0x0020 (106 + length custom) signature
+  pub version-tag : Reads i versionType 8 (leBytes 4 (fields .version))
+  pub timestamp-tag : Reads i timestampType 16 (leBytes 8 (fields .timestamp))
+  pub firmware-type-tag : Reads i firmwareType 28 (leBytes 2 (fields .«firmware_type»))
+  pub hint-tag : Reads i hintType (34 + length custom) hint
+  pub digest-tag : Reads i digestType (70 + length custom) digest
+  pub signature-tag : Reads i signatureType (106 + length custom) signature
   -- every custom tag has its content, and is found where it is the first of its type
   pub custom-content : (t : Tag) → List·Memᴰ t (tagsOf custom) → contentAt i (moved 34 t) ≡ contentAt custom t
   pub custom-found : (t : Tag) (ts : List Tag) → ofKind (t .kind) (tagsOf custom) ≡ t ∷ ts → lookup i (t .kind) ≡ Found (moved 34 t)

@@ -4,12 +4,13 @@ use mathlib.Core.Bool.{Bool, cond, not, _&&_, _||_}
 use mathlib.Core.List.{List, [], _∷_}
 use lib.Dec.{ltb, eqb}
 use lib.ListN.{length}
+use Rattle.header.specs.Types.{versionType, timestampType, digestType, hintType, signatureType, firmwareType}
 use Rattle.header.specs.Walk.{walk}
 use Rattle.header.specs.declared.tags.Tag.{Tag}
 
 -- the types that document 01 names
 abbrev pub named : ℕ → Bool
-named k = eqb k 0x0001 || eqb k 0x0002 || eqb k 0x0003 || eqb k 0x0010 || eqb k 0x0020 || eqb k 0x0030
+named k = eqb k versionType || eqb k timestampType || eqb k digestType || eqb k hintType || eqb k signatureType || eqb k firmwareType
 
 -- The tags of a run: those that the header's walk meets in it. So none passes the run's end, has type 0000 or the low type byte FF.
 abbrev pub tagsOf : List ℕ → List Tag

@@ -2,6 +2,7 @@
 use Prim.Native.Nat.{ℕ, zero, suc, _-_, _/_, _%_}
 use mathlib.Core.List.{List, [], _∷_, _++_}
 use lib.ListN.{length, replicate}
+use Rattle.header.specs.Types.{versionType, timestampType, digestType, hintType, signatureType, firmwareType}
 use Rattle.sha256.specs.Digest.{digest}
 use Rattle.writer.specs.declared.Fields.{Fields}
 
@@ -22,11 +23,11 @@ unfoldable pub coveredPart : Fields → List ℕ → List ℕ → List ℕ → L
 coveredPart fields firmware custom hint =
     (0x57 ∷ 0x4F ∷ 0x4C ∷ 0x46 ∷ [])
     ++ leBytes 4 (length firmware)
-    ++ tagBytes 0x0001 (leBytes 4 (fields .version))
-    ++ tagBytes 0x0002 (leBytes 8 (fields .timestamp))
-    ++ tagBytes 0x0030 (leBytes 2 (fields .«firmware_type»))
+    ++ tagBytes versionType (leBytes 4 (fields .version))
+    ++ tagBytes timestampType (leBytes 8 (fields .timestamp))
+    ++ tagBytes firmwareType (leBytes 2 (fields .«firmware_type»))
     ++ custom
-    ++ tagBytes 0x0010 hint
+    ++ tagBytes hintType hint
 
 -- the 32 bytes to be signed
 unfoldable pub digestToSign : Fields → List ℕ → List ℕ → List ℕ → List ℕ
@@ -36,6 +37,6 @@ digestToSign fields firmware custom hint = digest (coveredPart fields firmware c
 unfoldable pub written : Fields → List ℕ → List ℕ → List ℕ → List ℕ → List ℕ
 written fields firmware custom hint signature =
     coveredPart fields firmware custom hint
-    ++ tagBytes 0x0003 (digestToSign fields firmware custom hint)
-    ++ tagBytes 0x0020 signature
+    ++ tagBytes digestType (digestToSign fields firmware custom hint)
+    ++ tagBytes signatureType signature
     ++ replicate (82 - length custom) 0xFF

@@ -7,6 +7,7 @@ ghost use mathlib.Core.Path.{_≡_};
 ghost use mathlib.Core.List.{_++_};
 ghost use Prim.Native.Nat.{_+_, _-_, _≤_};
 ghost use lib.ListN.{length, replicate};
+ghost use Rattle.header.specs.Types.{digestType, signatureType};
 ghost use Rattle.writer.specs.Layout.{tagBytes, coveredPart};
 ghost use Rattle.writer.specs.Stored.{Stored};
 ghost use Rattle.writer.specs.Writer.{toSign, writeCheck, bufferAfter};
@@ -50,7 +51,7 @@ fn put_covered(buffer: &mut [u8], fields: Fields, firmware: &[u8], custom: &[u8]
 // Stores the digest and the signature, and padding up to the end.
 fn put_rest(buffer: &mut [u8], at: usize, digest: &[u8; 32], signature: &[u8; 64])
     requires { ⌜ at + 104 ≤ length (now buffer) ⌝ }
-    ensures bytes { λ _. ⌜ Stored (now (buffer .entry)) at (tagBytes 0x0003 (now (digest .entry)) ++ tagBytes 0x0020 (now (signature .entry)) ++ replicate (length (now (buffer .entry)) - (at + 104)) 0xFF) (now (buffer .exit)) ⌝ }
+    ensures bytes { λ _. ⌜ Stored (now (buffer .entry)) at (tagBytes digestType (now (digest .entry)) ++ tagBytes signatureType (now (signature .entry)) ++ replicate (length (now (buffer .entry)) - (at + 104)) 0xFF) (now (buffer .exit)) ⌝ }
     ensures lengths { λ _. ⌜ (length (now (digest .entry)) ≡ 32) × (length (now (signature .entry)) ≡ 64) ⌝ }
 {
     put_tag(buffer, at, header::DIGEST, digest);

@@ -1,0 +1,20 @@
+-- Document 01, "Header": the types that it names. A tag's type is a kind in the code, where type is a word of the language.
+use Prim.Native.Nat.{ℕ}
+
+abbrev pub versionType : ℕ
+versionType = 0x0001
+
+abbrev pub timestampType : ℕ
+timestampType = 0x0002
+
+abbrev pub digestType : ℕ
+digestType = 0x0003
+
+abbrev pub hintType : ℕ
+hintType = 0x0010
+
+abbrev pub signatureType : ℕ
+signatureType = 0x0020
+
+abbrev pub firmwareType : ℕ
+firmwareType = 0x0030
