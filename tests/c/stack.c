@@ -5,7 +5,10 @@
 #include <string.h>
 #include <ucontext.h>
 
-enum { ROOM = 64 * 1024, PAINT = 0xa5, MOST_DIGEST = 768, MOST_HEADER = 1536 };
+enum { ROOM = 64 * 1024, PAINT = 0xa5, MOST_DIGEST = 768, MOST = 1152 };
+
+static const uint8_t custom[10] = { 0x42, 0, 1, 0, 'x', 0x43, 0, 1, 0, 'y' };
+static const frondicare_fields fields = { 1, 2, 3 };
 
 static uint8_t stack[ROOM] __attribute__((aligned(64)));
 static uint8_t image[256 + 1000];
@@ -19,11 +22,16 @@ static void one_piece(void) { number = frondicare_digest(message, 1000, digest);
 static void two_pieces(void) { number = frondicare_digest_of_two(message, 70, message + 70, 930, digest); }
 static void verify(void) { number = frondicare_verify(image, sizeof image, true); }
 
+static void find_tag(void) { number = frondicare_find_tag(image, sizeof image, 0x0020).number; }
+
 /* Two custom tags, so that the run is read too. The message stands for hint and signature. */
+static void digest_to_sign(void)
+{
+    number = frondicare_digest_to_sign(fields, message, 1000, custom, sizeof custom, message, digest);
+}
+
 static void write_header(void)
 {
-    static const uint8_t custom[10] = { 0x42, 0, 1, 0, 'x', 0x43, 0, 1, 0, 'y' };
-    static const frondicare_fields fields = { 1, 2, 3 };
     number = frondicare_write_header(image, 256, fields, message, 1000, custom, sizeof custom, message, message);
 }
 
@@ -43,7 +51,7 @@ static size_t used_by(void (*call)(void))
     return ROOM - clean;
 }
 
-/* 1 where the call refuses or takes more stack than `most`. */
+/* 1 where the call refuses or takes more stack than most. */
 static int report(const char *name, void (*call)(void), size_t base, size_t most)
 {
     size_t used = used_by(call) - base;
@@ -69,7 +77,9 @@ int main(void)
     memset(message, 'a', 1000);
     failed = report_digest("frondicare_digest", one_piece, base);
     failed |= report_digest("frondicare_digest_of_two", two_pieces, base);
-    failed |= report("frondicare_write_header", write_header, base, MOST_HEADER);
-    failed |= report("frondicare_verify", verify, base, MOST_HEADER);
+    failed |= report("frondicare_digest_to_sign", digest_to_sign, base, MOST);
+    failed |= report("frondicare_write_header", write_header, base, MOST);
+    failed |= report("frondicare_find_tag", find_tag, base, MOST);
+    failed |= report("frondicare_verify", verify, base, MOST);
     return failed;
 }
