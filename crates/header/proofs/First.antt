@@ -35,6 +35,9 @@ module _ (s : List ℕ) (e p k : ℕ) where
   pub passes : {t : Tag} → stepAt s e p ≡ Met t → eqb (t .kind) k ≡ false → first k (walk s e p) ≡ first k (walk s e (t .at + t .len))
   passes q h = step-of q ∙ simp h
 
+pub not-found : {A : Type 0} {n : ℕ} {t : Tag} → Refused n ≡ Found t → A
+not-found e = absurd (let z : _≡_ {A = ℕ} 0 1 = cc in omega arith)
+
 -- a tag that is met from a later place on
 pub later : {s : List ℕ} {e p q : ℕ} {t : Tag} → p ≤ q → Good s e q t → Good s e p t
 later l g = record { is = g .is; typed = g .typed; unpadded = g .unpadded; starts = omega arith; inside = g .inside }
@@ -43,7 +46,7 @@ later l g = record { is = g .is; typed = g .typed; unpadded = g .unpadded; start
 pub found-good : (s : List ℕ) (e p k : ℕ) {t : Tag} → first k (walk s e p) ≡ Found t → Good s e p t
 found-good s e p k {t} =
     walk-ind s e (λ (q : ℕ) (w : Walk). first k w ≡ Found t → Good s e q t)
-    (λ q n d h. absurd (let z : _≡_ {A = ℕ} 0 1 = cc in omega arith))
+    (λ q n d h. not-found h)
     (λ q n l m ih h. later (omega arith) (ih h))
     (λ q u g ih.
     by-test (λ (r : Lookup). r ≡ Found t → Good s e q t) (eqb (u .kind) k)
@@ -65,7 +68,7 @@ pub looked-up : (h : List ℕ) (k : ℕ) {t : Tag} → lookup h k ≡ Found t �
 unfolding lookup
 looked-up h k {t} =
     by-test (λ (r : Lookup). r ≡ Found t → InHeader h t) (ltb (length h) 256)
-    (λ b e. absurd (let z : _≡_ {A = ℕ} 0 1 = cc in omega arith))
+    (λ b e. not-found e)
     (λ b e. record { long = ltb-false _ _ b; good = found-good h 256 8 k e })
 
 -- what the digest covers lies within the header

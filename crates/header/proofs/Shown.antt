@@ -14,7 +14,7 @@ use Rattle.header.specs.Walk.{Walk, walk, Stays}
 use Rattle.header.specs.declared.tags.Lookup.the-variants.{Found, Refused}
 use Rattle.header.specs.declared.tags.Lookup.{Lookup}
 use Rattle.header.specs.declared.tags.Tag.{Tag}
-use Rattle.header.proofs.First.{later, long-enough, looked-up}
+use Rattle.header.proofs.First.{not-found, later, long-enough, looked-up}
 use Rattle.header.proofs.Tests.{by-test}
 use Rattle.header.proofs.Walk.{Good, walk-step, walk-ind}
 
@@ -50,7 +50,7 @@ head-of k (t ∷ ts) n =
 
 -- a tag that is found has the type
 typed : (k : ℕ) (ts : List Tag) (n : ℕ) {t : Tag} → firstIn k ts n ≡ Found t → t .kind ≡ k
-typed k [] n {t} = λ h. absurd (let z : _≡_ {A = ℕ} 0 1 = cc in omega arith)
+typed k [] n {t} = λ h. not-found h
 typed k (u ∷ ts) n {t} =
     by-test (λ (r : Lookup). r ≡ Found t → t .kind ≡ k) (eqb (u .kind) k)
     (λ b h. let same : u ≡ t = cc in sym (ap (λ (t : Tag). t .kind) same) ∙ eqb-true _ _ b)

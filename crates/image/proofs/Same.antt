@@ -4,21 +4,21 @@ use Prim.Native.Nat.{ℕ}
 use mathlib.Core.Bool.{Bool, true, false, _&&_}
 use mathlib.Core.List.{List, [], _∷_}
 use mathlib.Core.Path.{_≡_, refl, sym}
-use native.Mathlib.Omega.{arith}
 use lib.Dec.{eqb}
 use borrow.Author.Tests.{eqb-true, eq-eqb}
+use Rattle.header.proofs.Tests.{never}
 use Rattle.image.specs.Verdict.{same}
 
 pub same-equal : (a b : List ℕ) → same a b ≡ true → a ≡ b
 unfolding same
 same-equal [] [] = λ e. refl
-same-equal [] (y ∷ b) = λ e. absurd (let z : _≡_ {A = ℕ} 0 1 = cc in omega arith)
-same-equal (x ∷ a) [] = λ e. absurd (let z : _≡_ {A = ℕ} 0 1 = cc in omega arith)
+same-equal [] (y ∷ b) = λ e. never (sym e)
+same-equal (x ∷ a) [] = λ e. never (sym e)
 same-equal (x ∷ a) (y ∷ b) = go (eqb x y) refl (same-equal a b)
   where
     go : (t : Bool) → eqb x y ≡ t → (same a b ≡ true → a ≡ b) → (t && same a b) ≡ true → _≡_ {A = List ℕ} (x ∷ a) (y ∷ b)
     go true t ih e = let p : x ≡ y = eqb-true _ _ t in let q : a ≡ b = ih e in cc
-    go false t ih e = absurd (let z : _≡_ {A = ℕ} 0 1 = cc in omega arith)
+    go false t ih e = never (sym e)
 
 pub same-self : (a : List ℕ) → same a a ≡ true
 unfolding same

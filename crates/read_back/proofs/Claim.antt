@@ -5,14 +5,15 @@ use mathlib.Core.Bool.{Bool, true, cond}
 use mathlib.Core.List.{List, [], _∷_, _++_, map, append-nil}
 use mathlib.Core.Path.{_≡_, refl, sym, ap}
 use native.Mathlib.Omega.{arith}
-use lib.ListN.{length, length-append}
+use lib.ListN.{length, replicate, length-append}
 use lib.Seq.{take-length}
 use borrow.Author.Tests.{le-ltb, ne-eqb}
 use Rattle.header.specs.Checks.{firstOf, lengthCheck, markCheck, sizeOf, sizeCheck, walkCheck, mandatoryCheck, tagsCheck, headerCheck, versionOf}
 use Rattle.header.specs.Lookup.{ofKind}
+use Rattle.header.specs.Walk.{stepAt, walkIn, walk}
 use Rattle.header.specs.declared.tags.Tag.{Tag}
 use Rattle.image.specs.Verdict.{digestOf, digestCheck, signatureCheck, verdict}
-use Rattle.writer.specs.Custom.{named, tagsOf}
+use Rattle.writer.specs.Custom.{named, tagsOf, oneByOne, customCheck}
 use Rattle.writer.specs.Layout.{leBytes, digestToSign, written}
 use Rattle.writer.specs.Writer.{bufferCheck, fieldsCheck, writeCheck, bufferAfter}
 use Rattle.writer.specs.declared.Fields.{Fields}
@@ -121,3 +122,8 @@ read-back buffer fields firmware custom hint signature e hl sl =
       version = version-is fields firmware custom hint signature ok hl sl (w ++ firmware) refl;
       verdict-is = passes fields firmware custom hint signature ok hl sl (w ++ firmware) refl;
     })
+
+-- the premises can be met
+pub some-input : writeCheck (replicate 256 0) (0x11 ∷ []) [] ≡ 0
+unfolding writeCheck fieldsCheck customCheck oneByOne walk walkIn stepAt
+some-input = refl

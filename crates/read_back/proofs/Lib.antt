@@ -1,4 +1,3 @@
-pub mod Truth
 pub mod Standing
 pub mod Passing
 pub mod Placed

@@ -10,9 +10,8 @@ use Rattle.header.specs.Lookup.{firstIn, ofKind}
 use Rattle.header.specs.declared.tags.Lookup.the-variants.{Found}
 use Rattle.header.specs.declared.tags.Tag.{Tag}
 use Rattle.writer.specs.Custom.{named, oneByOne}
-use Rattle.header.proofs.Tests.{by-test}
+use Rattle.header.proofs.Tests.{by-test, never, and-left, and-right}
 use Rattle.read_back.specs.ReadBack.{moved}
-use Rattle.read_back.proofs.Truth.{never, and-left, and-right}
 
 -- types of which one is named and the other is not differ
 pub differ : (k m : ℕ) → named k ≡ true → named m ≡ false → eqb m k ≡ false

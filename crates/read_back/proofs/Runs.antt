@@ -2,8 +2,7 @@
 -- Assumes nothing.
 use Prim.Native.Nat.{ℕ, zero, suc, _+_, _-_, _*_, _/_, _%_, _<_, _≤_}
 use mathlib.Core.Bool.{true, false, not, _&&_}
-use mathlib.Core.List.{List, [], _∷_, _++_, append-assoc, append-nil}
-use mathlib.Core.Logic.{_⊎_}
+use mathlib.Core.List.{List, [], _∷_, _++_, append-assoc}
 use mathlib.Core.Path.{_≡_, refl, sym, ap, _∙_}
 use native.Mathlib.Nat.{zero-add}
 use native.Mathlib.Numerals.{add-one}
@@ -17,16 +16,15 @@ use Rattle.header.specs.Walk.{tagAt, Walk, walk}
 use Rattle.header.specs.declared.tags.Tag.{Tag}
 use Rattle.writer.specs.Custom.{named, tagsOf, oneByOne, customCheck}
 use Rattle.writer.specs.Layout.{leBytes, tagBytes}
+use Rattle.header.proofs.Tests.{never, and-left}
 use Rattle.header.proofs.Walk.{Good, walk-ind}
-use Rattle.writer.proofs.Accepted.{Custom, custom-accepted}
+use Rattle.writer.proofs.Accepted.{custom-accepted}
 use Rattle.writer.proofs.Run.{goesOn, gap, at-end}
 use Rattle.writer.proofs.Stores.{tag-length}
-use Rattle.read_back.specs.ReadBack.{tagOf, contentAt}
 use Rattle.read_back.specs.Runs as R
 use Rattle.read_back.specs.Runs.{Entry, Allowed, AllAllowed, encode, Made, Runs}
 use Rattle.read_back.proofs.Passing.{head-custom, rest-whole}
 use Rattle.read_back.proofs.Standing.{Laid, laid}
-use Rattle.read_back.proofs.Truth.{never, and-left}
 
 -- encoded tags are met one right behind the other
 encoded :

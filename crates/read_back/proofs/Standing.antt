@@ -17,11 +17,11 @@ use Rattle.header.specs.declared.tags.Tag.{Tag}
 use Rattle.header.specs.declared.tags.WalkStep.the-variants.{Met}
 use Rattle.writer.specs.Custom.{named, tagsOf, oneByOne}
 use Rattle.writer.specs.Layout.{leBytes, tagBytes}
+use Rattle.header.proofs.Tests.{never, and-left, and-right}
 use Rattle.header.proofs.Walk.{Good, stopped, meets, step-end, step-padding, step-met, walk-step, walk-ind}
 use Rattle.writer.proofs.Run.{gap}
 use Rattle.writer.proofs.Stores.{length-le}
 use Rattle.read_back.specs.ReadBack.{tagOf, moved, contentAt}
-use Rattle.read_back.proofs.Truth.{never, and-left, and-right}
 
 -- from a rest to a later one
 pub rest-at : (i : List ℕ) (p n : ℕ) (s : List ℕ) → drop p i ≡ s → drop (p + n) i ≡ drop n s
