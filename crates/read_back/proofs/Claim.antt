@@ -13,7 +13,7 @@ use Rattle.header.specs.Lookup.{ofKind}
 use Rattle.header.specs.Walk.{stepAt, walkIn, walk}
 use Rattle.header.specs.declared.tags.Tag.{Tag}
 use Rattle.image.specs.Verdict.{digestOf, digestCheck, signatureCheck, verdict}
-use Rattle.writer.specs.Custom.{named, tagsOf, oneByOne, customCheck}
+use Rattle.writer.specs.Custom.{named, tagsOf, wellFormed, customCheck}
 use Rattle.writer.specs.Layout.{leBytes, digestToSign, written}
 use Rattle.writer.specs.Writer.{bufferCheck, fieldsCheck, writeCheck, bufferAfter}
 use Rattle.writer.specs.declared.Fields.{Fields}
@@ -125,5 +125,5 @@ read-back buffer fields firmware custom hint signature e hl sl =
 
 -- the premises can be met
 pub some-input : writeCheck (replicate 256 0) (0x11 ∷ []) [] ≡ 0
-unfolding writeCheck fieldsCheck customCheck oneByOne walk walkIn stepAt
+unfolding writeCheck fieldsCheck customCheck wellFormed walk walkIn stepAt
 some-input = refl

@@ -14,12 +14,12 @@ use borrow.Author.Tests.{le-ltb, eqb-true, eq-eqb}
 use Rattle.header.specs.Numbers.{byteAt, numberAt}
 use Rattle.header.specs.Walk.{tagAt, Walk, walk}
 use Rattle.header.specs.declared.tags.Tag.{Tag}
-use Rattle.writer.specs.Custom.{named, tagsOf, oneByOne, customCheck}
+use Rattle.writer.specs.Custom.{named, tagsOf, wellFormed, customCheck}
 use Rattle.writer.specs.Layout.{leBytes, tagBytes}
 use Rattle.header.proofs.Tests.{never, and-left}
 use Rattle.header.proofs.Walk.{Good, walk-ind}
 use Rattle.writer.proofs.Accepted.{custom-accepted}
-use Rattle.writer.proofs.Run.{goesOn, gap, at-end}
+use Rattle.writer.proofs.Run.{wellFormedFrom, gap, at-end}
 use Rattle.writer.proofs.Stores.{tag-length}
 use Rattle.read_back.specs.Runs as R
 use Rattle.read_back.specs.Runs.{Entry, Allowed, AllAllowed, encode, Made, Runs}
@@ -32,8 +32,8 @@ encoded :
     AllAllowed es →
     drop p s ≡ encode es →
     p + length (encode es) ≡ length s →
-    goesOn s (length s) p ≡ true
-unfolding encode oneByOne
+    wellFormedFrom s (length s) p ≡ true
+unfolding encode wellFormed
 encoded s p [] a e n = at-end s (length s) p (omega arith) (omega arith)
 encoded s p (x ∷ es) (R.one ok a) e n =
     let k : ℕ = x .kind in
@@ -117,17 +117,17 @@ module _ (s : List ℕ) (b : (p : ℕ) → byteAt s p < 256) where
             ∙ rw (kind, ← a) (ap (λ (r : List ℕ). tagBytes (numberAt 2 s p) (take (t .len) (drop (t .at) s)) ++ r) (m .same));
       }
 
-  made : oneByOne (length s) 0 (tagsOf s) ≡ true → Made s
-  unfolding encode oneByOne
+  made : wellFormed (length s) 0 (tagsOf s) ≡ true → Made s
+  unfolding encode wellFormed
   made =
-      walk-ind s (length s) (λ (p : ℕ) (w : Walk). oneByOne (length s) p (w .tags) ≡ true → Made (drop p s))
+      walk-ind s (length s) (λ (p : ℕ) (w : Walk). wellFormed (length s) p (w .tags) ≡ true → Made (drop p s))
       (λ p n d h.
       let e : p ≡ length s = eqb-true p (length s) h in
       record { entries = []; allowed = R.none; same = drop-of-length-le s {i = p} (omega arith) })
       (λ p q l m ih h. never (sym h ∙ gap s (length s) p q (omega arith) l))
       (λ p t g ih h.
       let ts : List Tag = walk s (length s) (t .at + t .len) .tags in
-      let a : eqb (t .at) (p + 4) ≡ true = and-left _ (not (named (t .kind)) && oneByOne (length s) (t .at + t .len) ts) h in
+      let a : eqb (t .at) (p + 4) ≡ true = and-left _ (not (named (t .kind)) && wellFormed (length s) (t .at + t .len) ts) h in
       made-tag p t g (eqb-true _ _ a) (head-custom (length s) p t ts h) (ih (rest-whole (length s) p t ts h)))
       0
 
@@ -136,7 +136,7 @@ unfolding customCheck
 runs =
     record {
       accepted = λ es a l.
-          let w : goesOn (encode es) (length (encode es)) 0 ≡ true = encoded (encode es) 0 es a refl (zero-add _) in
+          let w : wellFormedFrom (encode es) (length (encode es)) 0 ≡ true = encoded (encode es) 0 es a refl (zero-add _) in
           simp (le-ltb 82 (length (encode es)) l, w);
       no-others = λ run b e. made run b (custom-accepted run e .whole);
     }

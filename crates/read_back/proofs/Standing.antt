@@ -15,7 +15,7 @@ use Rattle.header.specs.Numbers.{byteAt, numberAt}
 use Rattle.header.specs.Walk.{tagAt, stepAt, Walk, onStep, walk}
 use Rattle.header.specs.declared.tags.Tag.{Tag}
 use Rattle.header.specs.declared.tags.WalkStep.the-variants.{Met}
-use Rattle.writer.specs.Custom.{named, tagsOf, oneByOne}
+use Rattle.writer.specs.Custom.{named, tagsOf, wellFormed}
 use Rattle.writer.specs.Layout.{leBytes, tagBytes}
 use Rattle.header.proofs.Tests.{never, and-left, and-right}
 use Rattle.header.proofs.Walk.{Good, stopped, meets, step-end, step-padding, step-met, walk-step, walk-ind}
@@ -131,37 +131,37 @@ module _ (i : List ℕ) (o : ℕ) (s rest : List ℕ) (stands : drop o i ≡ s +
       ∙ ap Met (tag ∙ ap (moved o) (sym is))
 
   pub run-walked :
-      oneByOne (length s) 0 (tagsOf s) ≡ true → walk i 256 o ≡ prefixed (map (moved o) (tagsOf s)) (walk i 256 (o + length s))
-  unfolding oneByOne
+      wellFormed (length s) 0 (tagsOf s) ≡ true → walk i 256 o ≡ prefixed (map (moved o) (tagsOf s)) (walk i 256 (o + length s))
+  unfolding wellFormed
   run-walked w =
       rw add-zero at
       (walk-ind s (length s)
-      (λ (p : ℕ) (v : Walk). oneByOne (length s) p (v .tags) ≡ true → walk i 256 (o + p) ≡ prefixed (map (moved o) (v .tags)) (walk i 256 (o + length s)))
+      (λ (p : ℕ) (v : Walk). wellFormed (length s) p (v .tags) ≡ true → walk i 256 (o + p) ≡ prefixed (map (moved o) (v .tags)) (walk i 256 (o + length s)))
       at-stop at-padding at-tag 0 w)
     where
-      at-stop : (p n : ℕ) → (n ≡ 13) ⊎ (n ≡ 25) → oneByOne (length s) p [] ≡ true → walk i 256 (o + p) ≡ walk i 256 (o + length s)
+      at-stop : (p n : ℕ) → (n ≡ 13) ⊎ (n ≡ 25) → wellFormed (length s) p [] ≡ true → walk i 256 (o + p) ≡ walk i 256 (o + length s)
       at-stop p n d b = ap (λ (q : ℕ). walk i 256 (o + q)) (eqb-true p (length s) b)
 
       at-padding :
           (p q : ℕ) → p < q → q ≤ length s →
-          (oneByOne (length s) q (walk s (length s) q .tags) ≡ true →
+          (wellFormed (length s) q (walk s (length s) q .tags) ≡ true →
           walk i 256 (o + q) ≡ prefixed (map (moved o) (walk s (length s) q .tags)) (walk i 256 (o + length s))) →
-          oneByOne (length s) p (walk s (length s) q .tags) ≡ true →
+          wellFormed (length s) p (walk s (length s) q .tags) ≡ true →
           walk i 256 (o + p) ≡ prefixed (map (moved o) (walk s (length s) q .tags)) (walk i 256 (o + length s))
       at-padding p q l m ih b = never (sym b ∙ gap s (length s) p q (omega arith) l)
 
       at-tag :
           (p : ℕ) (t : Tag) → Good s (length s) p t →
-          (oneByOne (length s) (t .at + t .len) (walk s (length s) (t .at + t .len) .tags) ≡ true →
+          (wellFormed (length s) (t .at + t .len) (walk s (length s) (t .at + t .len) .tags) ≡ true →
           walk i 256 (o + (t .at + t .len)) ≡
           prefixed (map (moved o) (walk s (length s) (t .at + t .len) .tags)) (walk i 256 (o + length s))) →
-          oneByOne (length s) p (t ∷ walk s (length s) (t .at + t .len) .tags) ≡ true →
+          wellFormed (length s) p (t ∷ walk s (length s) (t .at + t .len) .tags) ≡ true →
           walk i 256 (o + p) ≡
           prefixed (moved o t ∷ map (moved o) (walk s (length s) (t .at + t .len) .tags)) (walk i 256 (o + length s))
       at-tag p t g ih b =
           let r : List Tag = walk s (length s) (t .at + t .len) .tags in
-          let a : eqb (t .at) (p + 4) ≡ true = and-left _ (not (named (t .kind)) && oneByOne (length s) (t .at + t .len) r) b in
-          let c : oneByOne (length s) (t .at + t .len) r ≡ true =
+          let a : eqb (t .at) (p + 4) ≡ true = and-left _ (not (named (t .kind)) && wellFormed (length s) (t .at + t .len) r) b in
+          let c : wellFormed (length s) (t .at + t .len) r ≡ true =
           and-right (not (named (t .kind))) _ (and-right (eqb (t .at) (p + 4)) _ b) in
           let m : o + t .at + t .len ≡ o + (t .at + t .len) = omega arith in
           walk-step i 256 (o + p) ∙ ap (onStep (walk i 256)) (step-in p t g (eqb-true _ _ a)) ∙ rw m (ap (meets (moved o t)) (ih c))

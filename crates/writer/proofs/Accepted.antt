@@ -10,12 +10,12 @@ use lib.ListN.{length}
 use borrow.Author.Tests.{ltb-false, eqb-false, eq-eqb, ne-eqb}
 use Rattle.header.proofs.Refusals.{first-one, zero-at}
 use Rattle.header.proofs.Tests.{by-test}
-use Rattle.writer.specs.Custom.{tagsOf, oneByOne, customCheck}
+use Rattle.writer.specs.Custom.{tagsOf, wellFormed, customCheck}
 use Rattle.writer.specs.Writer.{firmwareCheck, fieldsCheck, writeCheck}
 
 pub record Custom (run : List ℕ) : Type 0 where
   pub size : length run ≤ 82
-  pub whole : oneByOne (length run) 0 (tagsOf run) ≡ true
+  pub whole : wellFormed (length run) 0 (tagsOf run) ≡ true
 
 pub record Firmware (firmware : List ℕ) : Type 0 where
   pub some : length firmware ≡ 0 → ⊥
@@ -29,7 +29,7 @@ pub custom-accepted : (run : List ℕ) → customCheck run ≡ 0 → Custom run
 unfolding customCheck
 custom-accepted run =
     by-test (λ (r : ℕ). r ≡ 0 → Custom run) (ltb 82 (length run)) (λ t e. absurd (omega arith))
-    (λ f. by-test (λ (r : ℕ). r ≡ 0 → Custom run) (oneByOne (length run) 0 (tagsOf run))
+    (λ f. by-test (λ (r : ℕ). r ≡ 0 → Custom run) (wellFormed (length run) 0 (tagsOf run))
     (λ t e. record { size = ltb-false _ _ f; whole = t })
     (λ t e. absurd (omega arith)))
 

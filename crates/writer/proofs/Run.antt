@@ -12,46 +12,46 @@ use Rattle.header.specs.declared.tags.Tag.{Tag}
 use Rattle.header.specs.declared.tags.WalkStep.the-variants.{Stop, Padding, Met}
 use Rattle.header.specs.declared.tags.WalkStep.{WalkStep}
 use Rattle.header.proofs.Walk.{walk-step, walk-ind, step-end, step-tag, on}
-use Rattle.writer.specs.Custom.{named, tagsOf, oneByOne, customCheck}
+use Rattle.writer.specs.Custom.{named, tagsOf, wellFormed, customCheck}
 
 -- whether the tags from place p on stand one right behind the other up to place e
-abbrev pub goesOn : List ℕ → ℕ → ℕ → Bool
-goesOn s e p = oneByOne e p (walk s e p .tags)
+abbrev pub wellFormedFrom : List ℕ → ℕ → ℕ → Bool
+wellFormedFrom s e p = wellFormed e p (walk s e p .tags)
 
 -- tags that start behind place p leave a gap
-pub gap : (s : List ℕ) (e p q : ℕ) → p < e → p < q → oneByOne e p (walk s e q .tags) ≡ false
-unfolding oneByOne
+pub gap : (s : List ℕ) (e p q : ℕ) → p < e → p < q → wellFormed e p (walk s e q .tags) ≡ false
+unfolding wellFormed
 gap s e p q h =
-    walk-ind s e (λ (q : ℕ) (w : Walk). p < q → oneByOne e p (w .tags) ≡ false)
+    walk-ind s e (λ (q : ℕ) (w : Walk). p < q → wellFormed e p (w .tags) ≡ false)
     (λ q n d l. ne-eqb p e (omega arith))
     (λ q r m b ih l. ih (omega arith))
     (λ q t g ih l. simp (ne-eqb (t .at) (p + 4) (omega arith)))
     q
 
 module _ (s : List ℕ) (e p : ℕ) where
-  step-of : {w : WalkStep} → stepAt s e p ≡ w → goesOn s e p ≡ oneByOne e p (onStep (walk s e) w .tags)
-  step-of q = ap (λ (w : Walk). oneByOne e p (w .tags)) (walk-step s e p ∙ ap (onStep (walk s e)) q)
+  step-of : {w : WalkStep} → stepAt s e p ≡ w → wellFormedFrom s e p ≡ wellFormed e p (onStep (walk s e) w .tags)
+  step-of q = ap (λ (w : Walk). wellFormed e p (w .tags)) (walk-step s e p ∙ ap (onStep (walk s e)) q)
 
-  pub at-end : e ≤ p → p ≤ e → goesOn s e p ≡ true
-  unfolding oneByOne
+  pub at-end : e ≤ p → p ≤ e → wellFormedFrom s e p ≡ true
+  unfolding wellFormed
   at-end h l = step-of (step-end s e p h) ∙ eq-eqb p e (omega arith)
 
-  at-stop : {n : ℕ} → p < e → stepAt s e p ≡ Stop n → goesOn s e p ≡ false
-  unfolding oneByOne
+  at-stop : {n : ℕ} → p < e → stepAt s e p ≡ Stop n → wellFormedFrom s e p ≡ false
+  unfolding wellFormed
   at-stop h q = step-of q ∙ ne-eqb p e (omega arith)
 
-  at-padding : {n : ℕ} → p < e → stepAt s e p ≡ Padding n → goesOn s e p ≡ false
+  at-padding : {n : ℕ} → p < e → stepAt s e p ≡ Padding n → wellFormedFrom s e p ≡ false
   at-padding {n} h q = let l = on s e p q in step-of q ∙ gap s e p n h (l .0)
 
-  at-tag : {t : Tag} → stepAt s e p ≡ Met t → goesOn s e p ≡ (not (named (t .kind)) && goesOn s e (t .at + t .len))
-  unfolding oneByOne
+  at-tag : {t : Tag} → stepAt s e p ≡ Met t → wellFormedFrom s e p ≡ (not (named (t .kind)) && wellFormedFrom s e (t .at + t .len))
+  unfolding wellFormed
   at-tag {t} q =
       let a : t .at ≡ p + 4 = ap (λ (t : Tag). t .at) (step-tag s e p q) in
       step-of q ∙ simp (eq-eqb (t .at) (p + 4) a)
 
 -- what the check answers, where the rest from place p on goes on as the whole run does
-module _ (s : List ℕ) (p : ℕ) (size : length s ≤ 82) (as-all : goesOn s (length s) p ≡ oneByOne (length s) 0 (tagsOf s)) where
-  ill : goesOn s (length s) p ≡ false → 27 ≡ customCheck s
+module _ (s : List ℕ) (p : ℕ) (size : length s ≤ 82) (as-all : wellFormedFrom s (length s) p ≡ wellFormed (length s) 0 (tagsOf s)) where
+  ill : wellFormedFrom s (length s) p ≡ false → 27 ≡ customCheck s
   unfolding customCheck
   ill e = simp (le-ltb 82 (length s) size, sym as-all ∙ e)
 
@@ -68,5 +68,5 @@ module _ (s : List ℕ) (p : ℕ) (size : length s ≤ 82) (as-all : goesOn s (l
   pub has-named : {t : Tag} → stepAt s (length s) p ≡ Met t → named (t .kind) ≡ true → 27 ≡ customCheck s
   has-named q n = ill (at-tag s (length s) p q ∙ simp n)
 
-  pub one-further : {t : Tag} → stepAt s (length s) p ≡ Met t → named (t .kind) ≡ false → goesOn s (length s) (t .at + t .len) ≡ oneByOne (length s) 0 (tagsOf s)
+  pub one-further : {t : Tag} → stepAt s (length s) p ≡ Met t → named (t .kind) ≡ false → wellFormedFrom s (length s) (t .at + t .len) ≡ wellFormed (length s) 0 (tagsOf s)
   one-further q n = sym (at-tag s (length s) p q ∙ simp n) ∙ as-all

@@ -17,10 +17,10 @@ abbrev pub tagsOf : List ℕ → List Tag
 tagsOf run = walk run (length run) 0 .tags
 
 -- whether tags stand one right behind the other from place p up to place e, none of a named type
-unfoldable pub oneByOne : ℕ → ℕ → List Tag → Bool
-oneByOne e p [] = eqb p e
-oneByOne e p (t ∷ ts) = eqb (t .at) (p + 4) && (not (named (t .kind)) && oneByOne e (t .at + t .len) ts)
+unfoldable pub wellFormed : ℕ → ℕ → List Tag → Bool
+wellFormed e p [] = eqb p e
+wellFormed e p (t ∷ ts) = eqb (t .at) (p + 4) && (not (named (t .kind)) && wellFormed e (t .at + t .len) ts)
 
 -- 26: over 82 bytes; 27: ill-formed
 unfoldable pub customCheck : List ℕ → ℕ
-customCheck run = cond (ltb 82 (length run)) 26 (cond (oneByOne (length run) 0 (tagsOf run)) 0 27)
+customCheck run = cond (ltb 82 (length run)) 26 (cond (wellFormed (length run) 0 (tagsOf run)) 0 27)

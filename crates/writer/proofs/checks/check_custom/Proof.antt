@@ -5,13 +5,13 @@ use lib.ListN.{length}
 use borrow.Author.Needs.{needs}
 use borrow.Author.Tests.{lt-ltb}
 use Rattle.header.proofs.Walk.{Good, on}
-use Rattle.writer.specs.Custom.{tagsOf, oneByOne, customCheck}
-use Rattle.writer.proofs.Run.{goesOn, well-formed, ends-early, has-padding, has-named, one-further}
+use Rattle.writer.specs.Custom.{tagsOf, wellFormed, customCheck}
+use Rattle.writer.proofs.Run.{wellFormedFrom, well-formed, ends-early, has-padding, has-named, one-further}
 use Rattle.writer.proofs.checks.check_custom.Statement.{statement}
 use Rattle.writer.proofs.checks.check_custom.Tie as tie
 
 abbrev Inv-loop : tie.InvT-loop
-Inv-loop run end p₀ p = (p ≤ length run) × (goesOn run (length run) p ≡ oneByOne (length run) 0 (tagsOf run))
+Inv-loop run end p₀ p = (p ≤ length run) × (wellFormedFrom run (length run) p ≡ wellFormed (length run) 0 (tagsOf run))
 
 abbrev μ-loop : tie.MeasureT-loop
 μ-loop run end p₀ p = length run - p
