@@ -6,8 +6,8 @@ use lib.Dec.{ltb, eqb}
 use lib.ListN.{length}
 use Rattle.header.specs.Lookup.{viewOf, ofKind}
 use Rattle.header.specs.Numbers.{byteAt, numberAt}
-use Rattle.header.specs.Types.{versionType, timestampType, digestType, signatureType, firmwareType}
-use Rattle.header.specs.Walk.{walk}
+use Rattle.header.specs.Types.{mark, versionType, timestampType, digestType, signatureType, firmwareType}
+use Rattle.header.specs.Walk.{headerWalk}
 use Rattle.header.specs.declared.checks.Version.{Version}
 use Rattle.header.specs.declared.tags.Tag.{Tag}
 
@@ -19,9 +19,10 @@ firstOf (n ∷ ns) = cond (eqb n 0) (firstOf ns) n
 abbrev pub lengthCheck : List ℕ → ℕ
 lengthCheck i = cond (ltb (length i) 256) 10 0
 
--- the image mark, 57 4F 4C 46
+-- bytes 0 to 3 are the mark
 abbrev pub marked : List ℕ → Bool
-marked i = eqb (byteAt i 0) 0x57 && eqb (byteAt i 1) 0x4F && eqb (byteAt i 2) 0x4C && eqb (byteAt i 3) 0x46
+marked i =
+    eqb (byteAt i 0) (byteAt mark 0) && eqb (byteAt i 1) (byteAt mark 1) && eqb (byteAt i 2) (byteAt mark 2) && eqb (byteAt i 3) (byteAt mark 3)
 
 abbrev pub markCheck : List ℕ → ℕ
 markCheck i = cond (marked i) 0 11
@@ -63,8 +64,8 @@ headerCheck i =
     (lengthCheck i
     ∷ markCheck i
     ∷ sizeCheck i
-    ∷ walkCheck (walk i 256 8 .number)
-    ∷ tagsCheck (walk i 256 8 .tags)
+    ∷ walkCheck (headerWalk i .number)
+    ∷ tagsCheck (headerWalk i .tags)
     ∷ [])
 
 -- the version of an image whose header passes; a refusal gives its number and nothing else

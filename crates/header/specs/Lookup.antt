@@ -7,7 +7,7 @@ use lib.Dec.{ltb, eqb}
 use lib.ListN.{length, take, drop}
 use Rattle.header.specs.Numbers.{byteAt}
 use Rattle.header.specs.Types.{digestType}
-use Rattle.header.specs.Walk.{Walk, walk}
+use Rattle.header.specs.Walk.{Walk, headerWalk}
 use Rattle.header.specs.declared.tags.Lookup.the-variants.{Found, Refused}
 use Rattle.header.specs.declared.tags.Lookup.{Lookup}
 use Rattle.header.specs.declared.tags.Tag.{Tag}
@@ -21,9 +21,9 @@ firstIn k (t ∷ ts) n = cond (eqb (t .kind) k) (Found t) (firstIn k ts n)
 abbrev pub first : ℕ → Walk → Lookup
 first k w = firstIn k (w .tags) (w .number)
 
--- the tags of a header start at 8 and end at 256
+-- 10 for a header that is too short, then the walk: 13, or 25 at its end
 unfoldable pub lookup : List ℕ → ℕ → Lookup
-lookup h k = cond (ltb (length h) 256) (Refused 10) (first k (walk h 256 8))
+lookup h k = cond (ltb (length h) 256) (Refused 10) (first k (headerWalk h))
 
 -- what a tag's view shows of the header; the empty part where lookup refuses
 abbrev pub contentOf : List ℕ → Lookup → List ℕ
@@ -50,7 +50,7 @@ ofKind k (t ∷ ts) = cond (eqb (t .kind) k) (t ∷ ofKind k ts) (ofKind k ts)
 -- What is shown of every lookup (proofs/Shown.antt): in a header that is long enough it gives the first of the tags of its type, and
 -- otherwise how the walk ended; type 0000 and, in bytes, a type whose low byte is FF are never found.
 pub record Agrees (h : List ℕ) (k : ℕ) : Type 0 where
-  pub found : (t : Tag) (ts : List Tag) → 256 ≤ length h → ofKind k (walk h 256 8 .tags) ≡ t ∷ ts → lookup h k ≡ Found t
-  pub absent : 256 ≤ length h → ofKind k (walk h 256 8 .tags) ≡ [] → lookup h k ≡ Refused (walk h 256 8 .number)
+  pub found : (t : Tag) (ts : List Tag) → 256 ≤ length h → ofKind k (headerWalk h .tags) ≡ t ∷ ts → lookup h k ≡ Found t
+  pub absent : 256 ≤ length h → ofKind k (headerWalk h .tags) ≡ [] → lookup h k ≡ Refused (headerWalk h .number)
   pub never-0000 : (t : Tag) → k ≡ 0 → lookup h k ≡ Found t → ⊥
   pub never-low-FF : (t : Tag) → ((p : ℕ) → byteAt h p < 256) → k % 256 ≡ 0xFF → lookup h k ≡ Found t → ⊥

@@ -44,6 +44,10 @@ walkIn (suc k) s e p = onStep (walkIn k s e) (stepAt s e p)
 unfoldable pub walk : List ℕ → ℕ → ℕ → Walk
 walk s e p = walkIn (suc e) s e p
 
+-- a header's tags start at 8 and end at 256
+abbrev pub headerWalk : List ℕ → Walk
+headerWalk h = walk h 256 8
+
 -- What is shown of every walk (proofs/Shown.antt): it is its first step and the walk from there, so it ends; it ends with 13 or 25; and
 -- every tag that it meets stands in the bytes, behind place p and not beyond e.
 pub record Stays (s : List ℕ) (e p : ℕ) : Type 0 where

@@ -1,7 +1,7 @@
 // The checks of an image's header, 10 to 16, and the version of an image that passes them.
 ghost use mathlib.Core.List.{_∷_, []};
 ghost use mathlib.Core.Path.{_≡_};
-ghost use Rattle.header.specs.Walk.{walk};
+ghost use Rattle.header.specs.Walk.{headerWalk};
 ghost use Rattle.header.specs.Checks.{firstOf, marked, walkCheck, tagsCheck, headerCheck, versionOf};
 ghost use Rattle.header.specs.Seen.{numberAfter, seenAfter, firstSeen};
 use crate::DIGEST;
@@ -90,7 +90,7 @@ fn first_of(s: Seen) -> u32
 
 // 13 to 16, or 0, in one walk over the tags.
 fn check_tags(header: &[u8]) -> u32
-    ensures { λ r. ⌜ r ≡ firstOf (walkCheck (walk (now (header .entry)) 256 8 .number) ∷ tagsCheck (walk (now (header .entry)) 256 8 .tags) ∷ []) ⌝ }
+    ensures { λ r. ⌜ r ≡ firstOf (walkCheck (headerWalk (now (header .entry)) .number) ∷ tagsCheck (headerWalk (now (header .entry)) .tags) ∷ []) ⌝ }
 {
     let mut seen = Seen {
         version: 14,

@@ -8,7 +8,7 @@ use Rattle.header.specs.Checks.{versionOf}
 use Rattle.header.specs.Lookup.{lookup, viewOf, ofKind}
 use Rattle.header.specs.Numbers.{numberAt}
 use Rattle.header.specs.Types.{versionType, timestampType, digestType, hintType, signatureType, firmwareType}
-use Rattle.header.specs.Walk.{walk}
+use Rattle.header.specs.Walk.{headerWalk}
 use Rattle.header.specs.declared.tags.Lookup.the-variants.{Found}
 use Rattle.header.specs.declared.tags.Tag.{Tag}
 use Rattle.image.specs.Verdict.{verdict}
@@ -45,7 +45,7 @@ pub record Reads (i : List ℕ) (k p : ℕ) (c : List ℕ) : Type 0 where
 
 -- what is read in the bytes i, which start with a header that was written
 pub record HeaderReads (fields : Fields) (custom hint digest signature i : List ℕ) : Type 0 where
-  pub walked : walk i 256 8 ≡ record { tags = writtenTags custom; number = 25 }
+  pub walked : headerWalk i ≡ record { tags = writtenTags custom; number = 25 }
   pub version-tag : Reads i versionType 8 (leBytes 4 (fields .version))
   pub timestamp-tag : Reads i timestampType 16 (leBytes 8 (fields .timestamp))
   pub firmware-type-tag : Reads i firmwareType 28 (leBytes 2 (fields .«firmware_type»))

@@ -2,7 +2,7 @@
 use Prim.Native.Nat.{ℕ, zero, suc, _-_, _/_, _%_}
 use mathlib.Core.List.{List, [], _∷_, _++_}
 use lib.ListN.{length, replicate}
-use Rattle.header.specs.Types.{versionType, timestampType, digestType, hintType, signatureType, firmwareType}
+use Rattle.header.specs.Types.{mark, versionType, timestampType, digestType, hintType, signatureType, firmwareType}
 use Rattle.sha256.specs.Digest.{digest}
 use Rattle.writer.specs.declared.Fields.{Fields}
 
@@ -21,7 +21,7 @@ tagBytes kind content = headBytes kind (length content) ++ content
 -- what the digest covers of the header: everything before the digest tag
 unfoldable pub coveredPart : Fields → List ℕ → List ℕ → List ℕ → List ℕ
 coveredPart fields firmware custom hint =
-    (0x57 ∷ 0x4F ∷ 0x4C ∷ 0x46 ∷ [])
+    mark
     ++ leBytes 4 (length firmware)
     ++ tagBytes versionType (leBytes 4 (fields .version))
     ++ tagBytes timestampType (leBytes 8 (fields .timestamp))
