@@ -1,7 +1,7 @@
 pub mod Numbers
 pub mod Tests
 pub mod Walk
-pub mod First
+pub mod Lookups
 pub mod Refusals
 pub mod OneWalk
 pub mod Shown

@@ -14,7 +14,7 @@ use Rattle.header.specs.Walk.{Walk, walk, Stays}
 use Rattle.header.specs.declared.tags.Lookup.the-variants.{Found, Refused}
 use Rattle.header.specs.declared.tags.Lookup.{Lookup}
 use Rattle.header.specs.declared.tags.Tag.{Tag}
-use Rattle.header.proofs.First.{not-found, later, long-enough, looked-up}
+use Rattle.header.proofs.Lookups.{not-found, later, long-enough, looked-up}
 use Rattle.header.proofs.Tests.{by-test}
 use Rattle.header.proofs.Walk.{Good, walk-step, walk-ind}
 

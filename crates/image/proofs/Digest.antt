@@ -9,7 +9,7 @@ use Rattle.header.specs.Checks.{sizeOf}
 use Rattle.header.specs.Lookup.{coveredOf}
 use Rattle.sha256.specs.Digest.{longestOfAll, answerUpTo}
 use Rattle.sha256.specs.declared.Answer.{Answer}
-use Rattle.header.proofs.First.{covered-short}
+use Rattle.header.proofs.Lookups.{covered-short}
 use Rattle.sha256.proofs.Answers.{short-enough}
 use Rattle.image.specs.Verdict.{firmwareOf, digestOf}
 

@@ -15,7 +15,7 @@ use Rattle.header.specs.declared.tags.Tag.{Tag}
 use Rattle.writer.specs.Custom.{named, tagsOf}
 use Rattle.writer.specs.Layout.{leBytes, tagBytes, coveredPart}
 use Rattle.writer.specs.declared.Fields.{Fields}
-use Rattle.header.proofs.First.{long-enough}
+use Rattle.header.proofs.Lookups.{long-enough}
 use Rattle.header.proofs.Shown.{stays}
 use Rattle.header.proofs.Walk.{stopped}
 use Rattle.writer.proofs.Accepted.{Custom}

@@ -4,7 +4,7 @@ use lib.Seq.{length-take-le}
 use borrow.Author.Needs.{needs}
 use Rattle.header.specs.Lookup.{lookup}
 use Rattle.header.specs.declared.tags.Lookup.the-variants.{Found}
-use Rattle.header.proofs.First.{InHeader, looked-up}
+use Rattle.header.proofs.Lookups.{InHeader, looked-up}
 use Rattle.header.proofs.covered.Statement.{statement}
 use Rattle.header.proofs.covered.Tie as tie
 

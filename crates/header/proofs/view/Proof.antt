@@ -7,7 +7,7 @@ use borrow.Author.Needs.{needs}
 use Rattle.header.specs.Lookup.{lookup, viewOf}
 use Rattle.header.specs.declared.tags.Lookup.the-variants.{Found}
 use Rattle.header.specs.declared.tags.Tag.{Tag}
-use Rattle.header.proofs.First.{InHeader, looked-up}
+use Rattle.header.proofs.Lookups.{InHeader, looked-up}
 use Rattle.header.proofs.view.Statement.{statement}
 use Rattle.header.proofs.view.Tie as tie
 

@@ -5,7 +5,7 @@ use borrow.Author.Needs.{needs}
 use borrow.Author.Tests.{eq-eqb, ne-eqb}
 use Rattle.header.specs.Lookup.{first}
 use Rattle.header.specs.Walk.{walk}
-use Rattle.header.proofs.First.{stops, pads, finds, passes}
+use Rattle.header.proofs.Lookups.{stops, pads, finds, passes}
 use Rattle.header.proofs.Walk.{Good, on}
 use Rattle.header.proofs.tags.find.Statement.{statement}
 use Rattle.header.proofs.tags.find.Tie as tie
