@@ -1,5 +1,4 @@
 pub mod Numbers
-pub mod Tests
 pub mod Walk
 pub mod Lookups
 pub mod Refusals

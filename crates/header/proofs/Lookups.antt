@@ -15,7 +15,7 @@ use Rattle.header.specs.declared.tags.Lookup.{Lookup}
 use Rattle.header.specs.declared.tags.Tag.{Tag}
 use Rattle.header.specs.declared.tags.WalkStep.the-variants.{Stop, Padding, Met}
 use Rattle.header.specs.declared.tags.WalkStep.{WalkStep}
-use Rattle.header.proofs.Tests.{by-test}
+use Rattle.compare.proofs.Tests.{by-test}
 use Rattle.header.proofs.Walk.{Good, walk-step, walk-ind}
 
 -- the four ways in which a lookup goes on from a step

@@ -13,7 +13,7 @@ use Rattle.header.specs.declared.checks.Seen.{Seen}
 use Rattle.header.specs.declared.tags.Tag.{Tag}
 use Rattle.header.specs.declared.tags.WalkStep.the-variants.{Stop, Padding, Met}
 use Rattle.header.specs.declared.tags.WalkStep.{WalkStep}
-use Rattle.header.proofs.Tests.{by-test}
+use Rattle.compare.proofs.Tests.{by-test}
 use Rattle.header.proofs.Walk.{walk-step}
 
 -- the number of a type of length n after some tags

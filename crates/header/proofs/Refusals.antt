@@ -9,7 +9,7 @@ use lib.ListN.{length, getD}
 use borrow.Author.Tests.{ltb-false, eqb-true, eqb-false}
 use Rattle.header.specs.Checks.{firstOf, lengthCheck, markCheck, sizeOf, sizeCheck, walkCheck, tagsCheck, headerCheck}
 use Rattle.header.specs.Walk.{walk}
-use Rattle.header.proofs.Tests.{by-test}
+use Rattle.compare.proofs.Tests.{by-test}
 
 pub first-one : (n : ℕ) → firstOf (n ∷ []) ≡ n
 first-one zero = refl

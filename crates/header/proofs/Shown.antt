@@ -15,7 +15,7 @@ use Rattle.header.specs.declared.tags.Lookup.the-variants.{Found, Refuse
 use Rattle.header.specs.declared.tags.Lookup.{Lookup}
 use Rattle.header.specs.declared.tags.Tag.{Tag}
 use Rattle.header.proofs.Lookups.{not-found, later, long-enough, looked-up}
-use Rattle.header.proofs.Tests.{by-test}
+use Rattle.compare.proofs.Tests.{by-test}
 use Rattle.header.proofs.Walk.{Good, walk-step, walk-ind}
 
 each-good : (s : List ℕ) (e p : ℕ) (t : Tag) → List·Memᴰ t (walk s e p .tags) → Good s e p t

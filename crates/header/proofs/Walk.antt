@@ -13,7 +13,7 @@ use Rattle.header.specs.Walk.{tagAt, stepAt, Walk, onStep, walkIn, walk}
 use Rattle.header.specs.declared.tags.Tag.{Tag}
 use Rattle.header.specs.declared.tags.WalkStep.the-variants.{Stop, Padding, Met}
 use Rattle.header.specs.declared.tags.WalkStep.{WalkStep}
-use Rattle.header.proofs.Tests.{by-test}
+use Rattle.compare.proofs.Tests.{by-test}
 
 -- the walk that stops at once, and the one that meets a tag first
 abbrev pub stopped : ℕ → Walk

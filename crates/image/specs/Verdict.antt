@@ -1,20 +1,13 @@
 -- Document 01, "Header" and "Numbers given back": the verdict on an image.
 use Prim.Native.Nat.{ℕ}
-use mathlib.Core.Bool.{Bool, true, false, cond, _&&_}
+use mathlib.Core.Bool.{Bool, cond}
 use mathlib.Core.List.{List, [], _∷_, _++_}
-use lib.Dec.{eqb}
 use lib.ListN.{take, drop}
+use Rattle.compare.specs.Compare.{same}
 use Rattle.header.specs.Checks.{firstOf, sizeOf, headerCheck}
 use Rattle.header.specs.Lookup.{viewOf, coveredOf}
 use Rattle.header.specs.Types.{digestType}
 use Rattle.sha256.specs.Digest.{digest}
-
--- whether two lists of bytes are the same
-unfoldable pub same : List ℕ → List ℕ → Bool
-same [] [] = true
-same [] (y ∷ ys) = false
-same (x ∷ xs) [] = false
-same (x ∷ xs) (y ∷ ys) = eqb x y && same xs ys
 
 -- the firmware: from 256 on, as many bytes as the size says
 abbrev pub firmwareOf : List ℕ → List ℕ

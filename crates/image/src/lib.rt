@@ -11,7 +11,7 @@ fn check_digest(image: &[u8]) -> u32
 {
     let end = header::LENGTH + header::u32_at(image, 4) as usize;
     let digest = sha256::long_digest_of_two(header::covered(image), &image[256..end]).bytes;
-    if check::same(header::view(image, header::DIGEST), &digest) {
+    if compare::same(header::view(image, header::DIGEST), &digest) {
         0
     } else {
         17

@@ -18,7 +18,7 @@ use Rattle.writer.specs.Layout.{leBytes, digestToSign, written}
 use Rattle.writer.specs.Writer.{bufferCheck, fieldsCheck, writeCheck, bufferAfter}
 use Rattle.writer.specs.declared.Fields.{Fields}
 use Rattle.header.proofs.Refusals.{first-one, zero-at}
-use Rattle.image.proofs.Same.{same-self}
+use Rattle.compare.proofs.Sameness.{same-self}
 use Rattle.writer.proofs.Accepted.{Accepted, accepted}
 use Rattle.writer.proofs.Whole.{digest-length}
 use Rattle.read_back.specs.ReadBack.{tagOf, moved, writtenTags, NumbersRead, HeaderReads, ReadBack}

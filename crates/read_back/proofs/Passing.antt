@@ -10,7 +10,7 @@ use Rattle.header.specs.Lookup.{firstIn, ofKind}
 use Rattle.header.specs.declared.tags.Lookup.the-variants.{Found}
 use Rattle.header.specs.declared.tags.Tag.{Tag}
 use Rattle.writer.specs.Custom.{named, wellFormed}
-use Rattle.header.proofs.Tests.{by-test, never, and-left, and-right}
+use Rattle.compare.proofs.Tests.{by-test, never, and-left, and-right}
 use Rattle.read_back.specs.ReadBack.{moved}
 
 -- types of which one is named and the other is not differ

@@ -16,7 +16,7 @@ use Rattle.header.specs.Walk.{tagAt, Walk, walk}
 use Rattle.header.specs.declared.tags.Tag.{Tag}
 use Rattle.writer.specs.Custom.{named, tagsOf, wellFormed, customCheck}
 use Rattle.writer.specs.Layout.{leBytes, tagBytes}
-use Rattle.header.proofs.Tests.{never, and-left}
+use Rattle.compare.proofs.Tests.{never, and-left}
 use Rattle.header.proofs.Walk.{Good, walk-ind}
 use Rattle.writer.proofs.Accepted.{custom-accepted}
 use Rattle.writer.proofs.Run.{wellFormedFrom, gap, at-end}

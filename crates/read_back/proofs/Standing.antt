@@ -17,7 +17,7 @@ use Rattle.header.specs.declared.tags.Tag.{Tag}
 use Rattle.header.specs.declared.tags.WalkStep.the-variants.{Met}
 use Rattle.writer.specs.Custom.{named, tagsOf, wellFormed}
 use Rattle.writer.specs.Layout.{leBytes, tagBytes}
-use Rattle.header.proofs.Tests.{never, and-left, and-right}
+use Rattle.compare.proofs.Tests.{never, and-left, and-right}
 use Rattle.header.proofs.Walk.{Good, stopped, meets, step-end, step-padding, step-met, walk-step, walk-ind}
 use Rattle.writer.proofs.Run.{gap}
 use Rattle.writer.proofs.Stores.{length-le}

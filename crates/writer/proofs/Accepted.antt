@@ -9,7 +9,7 @@ use lib.Dec.{ltb, eqb}
 use lib.ListN.{length}
 use borrow.Author.Tests.{ltb-false, eqb-false, eq-eqb, ne-eqb}
 use Rattle.header.proofs.Refusals.{first-one, zero-at}
-use Rattle.header.proofs.Tests.{by-test}
+use Rattle.compare.proofs.Tests.{by-test}
 use Rattle.writer.specs.Custom.{tagsOf, wellFormed, customCheck}
 use Rattle.writer.specs.Writer.{firmwareCheck, fieldsCheck, writeCheck}
 

@@ -2,7 +2,7 @@ use mathlib.Core.Path.{sym, _∙_}
 use borrow.Author.Needs.{needs}
 use Rattle.header.specs.Lookup.{lookup}
 use Rattle.header.proofs.Lookups.{long-enough}
-use Rattle.header.proofs.Tests.{tests}
+use Rattle.compare.proofs.Tests.{tests}
 use Rattle.header.proofs.find_tag.Statement.{statement}
 use Rattle.header.proofs.find_tag.Tie as tie
 

@@ -1,11 +1,11 @@
-use mathlib.Core.Path.{_≡_}
+use mathlib.Core.Path.{_≡_, sym}
 use native.Mathlib.Omega.{arith}
 use borrow.Author.Needs.{needs}
 use Rattle.header.specs.Lookup.{viewOf}
 use Rattle.header.proofs.Refusals.{firmware-fits}
-use Rattle.image.specs.Verdict.{same, digestOf}
+use Rattle.compare.specs.Compare.{same}
+use Rattle.image.specs.Verdict.{digestOf}
 use Rattle.image.proofs.Digest.{firmware-is, digest-is}
-use Rattle.image.proofs.Same.{same-is}
 use Rattle.image.proofs.check_digest.Statement.{statement}
 use Rattle.image.proofs.check_digest.Tie as tie
 
@@ -22,7 +22,7 @@ known c =
     let i = c .before .before .before .before .before .before .before .before .before .args .image .now in
     let e : d .long-digest-of-two .result .bytes ≡ digestOf i =
     digest-is i _ _ _ (omega arith) (c .before .before .before .before .before .before .covered .ensures) (firmware-is i _ (u .u32-at .ensures)) (d .long-digest-of-two .ensures) in
-    rw (← e, ← c .before .before .view .ensures) (same-is _ _ (c .same .result) (c .same .ensures))
+    rw (← e, ← c .before .before .view .ensures) (sym (c .same .ensures))
 
 returns : tie.Need-returns
 returns c = rw (known (c .before), c .if1 .taken)

@@ -3,7 +3,7 @@ use borrow.Author.Needs.{needs}
 use borrow.Author.Tests.{le-ltb, eq-eqb, ne-eqb}
 use Rattle.header.specs.Checks.{headerCheck}
 use Rattle.header.proofs.Numbers.{too-narrow, wide-enough}
-use Rattle.header.proofs.Tests.{tests}
+use Rattle.compare.proofs.Tests.{tests}
 use Rattle.header.proofs.checks.check.Statement.{statement}
 use Rattle.header.proofs.checks.check.Tie as tie
 

@@ -1,6 +1,6 @@
 use Rattle.header.specs.Seen.{firstSeen}
 use Rattle.header.proofs.Refusals.{first-one}
-use Rattle.header.proofs.Tests.{tests}
+use Rattle.compare.proofs.Tests.{tests}
 use Rattle.header.proofs.checks.first_of.Statement.{statement}
 use Rattle.header.proofs.checks.first_of.Tie as tie
 

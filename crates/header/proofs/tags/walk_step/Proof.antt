@@ -3,7 +3,7 @@ use borrow.Author.Needs.{needs}
 use borrow.Author.Tests.{lt-leb, eq-eqb, ne-eqb}
 use Rattle.header.specs.Walk.{stepAt}
 use Rattle.header.proofs.Numbers.{too-narrow, wide-enough}
-use Rattle.header.proofs.Tests.{tests}
+use Rattle.compare.proofs.Tests.{tests}
 use Rattle.header.proofs.tags.walk_step.Statement.{statement}
 use Rattle.header.proofs.tags.walk_step.Tie as tie
 

@@ -1,6 +1,6 @@
 use borrow.Author.Needs.{needs}
 use Rattle.header.proofs.Refusals.{first-one}
-use Rattle.header.proofs.Tests.{tests}
+use Rattle.compare.proofs.Tests.{tests}
 use Rattle.writer.specs.Writer.{fieldsCheck}
 use Rattle.writer.proofs.checks.check_fields.Statement.{statement}
 use Rattle.writer.proofs.checks.check_fields.Tie as tie

@@ -1,0 +1,3 @@
+pub mod Tests
+pub mod Sameness
+pub mod Values

@@ -1,0 +1,4 @@
+pub mod Areas
+pub mod Writes
+pub mod Targets
+pub mod Shown
