@@ -6,12 +6,12 @@ use mathlib.Core.List.{List, [], _∷_}
 use mathlib.Core.Logic.{_≢_}
 use mathlib.Core.Path.{_≡_, refl, sym, ap}
 use native.Mathlib.Numerals.{add-one}
+use borrow.Author.Tests.{eqb-true, eq-eqb, ne-eqb}
 use lib.Dec.{eqb}
 use lib.ListN.{length, drop, getD, drop-of-length-le}
 use lib.Seq.{drop-cons}
-use borrow.Author.Tests.{eqb-true, eq-eqb, ne-eqb}
-use Rattle.compare.proofs.Tests.{never}
 use Rattle.compare.specs.Compare.{same}
+use Rattle.compare.proofs.Tests.{never}
 
 pub same-equal : (a b : List ℕ) → same a b ≡ true → a ≡ b
 unfolding same

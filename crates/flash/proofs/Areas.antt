@@ -1,17 +1,17 @@
 -- Laws of the geometry: what its check's answer 0 says. Assumes nothing.
-use Prim.Native.Nat.{ℕ, _+_, _-_, _*_, _%_, _≤_}
-use mathlib.Core.Bool.{Bool, true, false, cond, _&&_, _||_}
+use Prim.Native.Nat.{ℕ, _+_, _-_, _%_, _≤_}
+use mathlib.Core.Bool.{Bool, true, false, _&&_, _||_}
 use mathlib.Core.Logic.{_⊎_, inl, inr}
 use mathlib.Core.Path.{_≡_, refl, sym, _∙_}
+use native.Mathlib.Decide.{decLe}
 use native.Mathlib.Nat.{le-trans, mul-le-mul-left, mul-le-mul-right}
 use native.Mathlib.Omega.{arith}
-use native.Mathlib.Decide.{decLe}
 use borrow.Author.Tests.{leb-true, eqb-true, le-leb, lt-leb}
 use lib.Dec.{leb, eqb}
+use Rattle.compare.proofs.Tests.{and-left, and-right, or-cases}
 use Rattle.flash.specs.Geometry.{listed, counted, imageSize, slotSize, aligned, fits, apart, placed, disjoint, geometryCheck}
 use Rattle.flash.specs.Valid.{Shaped, Apart, Valid}
 use Rattle.flash.specs.declared.geometry.Geometry.{Geometry}
-use Rattle.compare.proofs.Tests.{and-left, and-right, or-cases}
 
 -- what holds of each listed size holds of a size that is listed
 pub by-listed : (P : ℕ → Type 0) → P 256 → P 512 → P 1024 → P 2048 → P 4096 → (z : ℕ) → listed z ≡ true → P z

@@ -1,9 +1,9 @@
 -- The claims about an accepted step: only its target changes, and all but an erase only clear bits. Assumes nothing.
 use Prim.Native.Nat.{ℕ, _+_, _-_, _/_, _%_, _^_, _≤_, _<_}
 use mathlib.Core.Bool.{Bool, true, false, cond}
-use mathlib.Core.List.{List, [], _∷_, _++_}
+use mathlib.Core.List.{List, [], _∷_}
 use mathlib.Core.Logic.{_⊎_, inl, inr}
-use mathlib.Core.Path.{_≡_, refl, sym, ap, _∙_, subst}
+use mathlib.Core.Path.{_≡_, refl, subst}
 use native.Mathlib.Decide.{decLt}
 use native.Mathlib.Nat.{le-of-eq}
 use native.Mathlib.Omega.{arith}
@@ -11,18 +11,19 @@ use borrow.Author.Tests.{eqb-true}
 use lib.Bits.{bitAnd, and-shr, and-mod, and-le-l}
 use lib.Dec.{eqb}
 use lib.ListN.{length, take, drop, getD}
-use Rattle.flash.specs.Geometry.{geometryCheck}
 use Rattle.flash.specs.Bytes.{blank, overlay, write}
-use Rattle.flash.specs.Steps.{accepted, closing, applied, stepCheck}
+use Rattle.flash.specs.Changes.{target, targetSize, Only, bit, Clears, ClearsOnly, Changes}
 use Rattle.flash.specs.Cuts.{Torn, Cut}
-use Rattle.flash.specs.Changes.{target, targetSize, Only, TargetOnly, bit, Clears, ClearsOnly, Changes}
+use Rattle.flash.specs.Geometry.{geometryCheck}
+use Rattle.flash.specs.Steps.{accepted, closing, applied, stepCheck}
 use Rattle.flash.specs.Valid.{Valid}
 use Rattle.flash.specs.declared.geometry.Geometry.{Geometry}
-use Rattle.flash.specs.declared.steps.Step.the-variants.{Erase, Copy, Byte, Mark}
 use Rattle.flash.specs.declared.steps.Step.{Step}
+use Rattle.flash.specs.declared.steps.Step.the-variants.{Erase, Copy, Byte, Mark}
 use Rattle.flash.proofs.Areas.{valid}
 use Rattle.flash.proofs.Targets.{target-inside, target-fits, copy-fits}
-use Rattle.flash.proofs.Writes.{length-blank, length-write, length-overlay, write-before, write-in, write-after, overlay-before, overlay-after, length-part}
+use Rattle.flash.proofs.Writes.{length-blank, length-write, length-overlay, write-before, write-in, write-after, overlay-before}
+use Rattle.flash.proofs.Writes.{overlay-after, length-part}
 
 -- ---- accepted
 

@@ -1,23 +1,23 @@
 -- An accepted step's target lies in one of the three areas, and so within the flash. Assumes nothing.
 use Prim.Native.Nat.{ℕ, _+_, _-_, _*_, _/_, _%_, _≤_, _<_}
 use mathlib.Core.Bool.{Bool, true, false, not, _&&_, _||_}
-use mathlib.Core.Logic.{_⊎_, inl, inr, _≢_}
 use mathlib.Core.List.{List}
+use mathlib.Core.Logic.{_⊎_, inl, inr, _≢_}
 use mathlib.Core.Path.{_≡_, refl, sym, _∙_}
 use native.Mathlib.Decide.{decLt}
 use native.Mathlib.Nat.{add-mul-mod-self-right, div-add-mod', lt-of-mul-lt-mul-right, mul-le-mul-right, add-mul, one-mul}
 use native.Mathlib.Omega.{arith}
 use borrow.Author.Tests.{leb-true, ltb-true, eqb-true, eq-eqb, ne-eqb}
-use lib.ListN.{length}
 use lib.Dec.{leb, ltb, eqb}
+use lib.ListN.{length}
+use Rattle.compare.proofs.Tests.{never, and-left, and-right, or-cases}
+use Rattle.flash.specs.Changes.{target, targetSize, Lies, InAreas}
 use Rattle.flash.specs.Geometry.{imageSize, slotSize, aligned, geometryCheck}
 use Rattle.flash.specs.Steps.{within, sectorStart, trailerByte, markPlace, accepted, applied, stepCheck, flashAfter}
-use Rattle.flash.specs.Changes.{target, targetSize, Lies, InAreas}
 use Rattle.flash.specs.Valid.{Apart, Valid}
 use Rattle.flash.specs.declared.geometry.Geometry.{Geometry}
-use Rattle.flash.specs.declared.steps.Step.the-variants.{Erase, Copy, Byte, Mark}
 use Rattle.flash.specs.declared.steps.Step.{Step}
-use Rattle.compare.proofs.Tests.{never, and-left, and-right, or-cases}
+use Rattle.flash.specs.declared.steps.Step.the-variants.{Erase, Copy, Byte, Mark}
 
 -- a multiple of z below another is at least z below it
 pub step-below : (a b z : ℕ) → a % z ≡ 0 → b % z ≡ 0 → a < b → a + z ≤ b

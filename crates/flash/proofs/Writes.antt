@@ -1,17 +1,17 @@
 -- Laws of bytes erased and written: lengths, single bytes, the turns of the loops, and a part lent on. Assumes nothing.
 use Prim.Native.Nat.{ℕ, zero, suc, _+_, _-_, _≤_, _<_}
-use mathlib.Core.Bool.{Bool}
 use mathlib.Core.List.{List, [], _∷_, _++_, append-nil, append-assoc}
-use mathlib.Core.Logic.{_⊎_, inl, inr}
+use mathlib.Core.Logic.{inl, inr}
 use mathlib.Core.Path.{_≡_, refl, sym, ap, ap₂, _∙_, subst}
+use native.Mathlib.Decide.{decLt}
 use native.Mathlib.Nat.{not-suc-le-zero, le-of-suc-le-suc, le-of-eq, zero-add, add-zero}
 use native.Mathlib.Numerals.{add-one}
 use native.Mathlib.Omega.{arith}
 use lib.Bits.{bitAnd, and-zero-l}
-use lib.ListN.{length, take, drop, getD, set, replicate, length-append, length-take, length-drop, length-replicate, take-append-drop, drop-of-length-le}
-use lib.ListN.{replicate-append-replicate, List·getD-append, List·getD-eq-default}
-use lib.Seq.{take-all, take-suc, drop-cons, length-take-le, take-append-add, drop-append-add, getD-append-add, set-at, take-at, drop-at, take-set-le}
-use lib.Seq.{drop-set-add, take-suc-set, getD-take, getD-drop, drop-drop, take-add, ext-getD}
+use lib.ListN.{length, take, drop, getD, set, replicate, length-append, length-take, length-drop, length-replicate, take-append-drop}
+use lib.ListN.{drop-of-length-le, replicate-append-replicate, List·getD-append}
+use lib.Seq.{take-all, take-suc, drop-cons, length-take-le, getD-append-add, set-at, take-at, drop-at, take-set-le, drop-set-add}
+use lib.Seq.{take-suc-set, getD-take, getD-drop, drop-drop, take-add, ext-getD}
 use Rattle.flash.specs.Bytes.{blank, overlay, ands, write}
 use Rattle.flash.specs.Valid.{Apart}
 
@@ -208,6 +208,40 @@ write-apart f at d a n h k w =
     go : (i : ℕ) → i < n → Apart a n at (length d) → getD (write f at d) (a + i) 0 ≡ getD f (a + i) 0
     go i r (inl b) = write-before f at d (omega arith) (a + i) (omega arith)
     go i r (inr b) = write-after f at d (omega arith) (a + i) (omega arith)
+
+-- a part that holds what is written
+pub write-within : (f : List ℕ) (a n k : ℕ) (d : List ℕ) → a + n ≤ length f → k + length d ≤ n
+    → take n (drop a (write f (a + k) d)) ≡ write (take n (drop a f)) k d
+write-within f a n k d h r =
+    part-is (write f (a + k) d) a n (write s k d) (omega (arith, length-write f (a + k) d)) (length-write s k d ∙ long)
+    (λ i l. go i l (decLt i k) (decLt i (k + length d)))
+  where
+    s : List ℕ
+    s = take n (drop a f)
+
+    long : length s ≡ n
+    long = length-part f a n h
+
+    go : (i : ℕ) → i < n → Dec (i < k) → Dec (i < k + length d) → getD (write f (a + k) d) (a + i) 0 ≡ getD (write s k d) i 0
+    go i l (yes b) c =
+        write-before f (a + k) d (omega arith) (a + i) (omega arith)
+        ∙ sym (write-before s k d (omega (arith, long)) i b ∙ getD-part f a n i l)
+    go i l (no b) (no c) =
+        write-after f (a + k) d (omega arith) (a + i) (omega arith)
+        ∙ sym (write-after s k d (omega (arith, long)) i (omega arith) ∙ getD-part f a n i l)
+    go i l (no b) (yes c) =
+        let e : a + i ≡ a + k + (i - k) = omega arith in
+        let e′ : i ≡ k + (i - k) = omega arith in
+        ap (λ (x : ℕ). getD (write f (a + k) d) x 0) e
+        ∙ write-in f (a + k) d (omega arith) (i - k) (omega arith)
+        ∙ ap (λ (x : ℕ). bitAnd x (getD d (i - k) 0)) (ap (λ (x : ℕ). getD f x 0) (sym e) ∙ sym (getD-part f a n i l) ∙ ap (λ (x : ℕ). getD s x 0) e′)
+        ∙ sym (ap (λ (x : ℕ). getD (write s k d) x 0) e′ ∙ write-in s k d (omega (arith, long)) (i - k) (omega arith))
+
+-- a part that is laid over
+pub overlay-whole : (f : List ℕ) (a n : ℕ) (d : List ℕ) → a + n ≤ length f → length d ≡ n → take n (drop a (overlay f a d)) ≡ d
+overlay-whole f a n d h q =
+    let fits : a + length d ≤ length f = omega arith in
+    part-is (overlay f a d) a n d (omega (arith, length-overlay f a d fits)) q (λ i l. overlay-in f a d fits i (omega arith))
 
 -- ---- one write after the other
 

@@ -1,8 +1,8 @@
 -- Document 01, "Flash steps and cuts": the bytes of a flash. Erased bytes are FF; a write only clears bits.
 use Prim.Native.Nat.{ℕ, _+_}
 use mathlib.Core.List.{List, [], _∷_, _++_}
-use lib.ListN.{length, take, drop, replicate}
 use lib.Bits.{bitAnd}
+use lib.ListN.{length, take, drop, replicate}
 
 unfoldable pub blank : ℕ → List ℕ
 blank k = replicate k 0xFF

@@ -1,12 +1,12 @@
 -- Claims about a step that is accepted: only its target changes, and all but an erase only clear bits.
 use Prim.Native.Nat.{ℕ, _+_, _/_, _%_, _^_, _≤_, _<_}
-use mathlib.Core.Path.{_≡_}
-use mathlib.Core.Logic.{_⊎_}
 use mathlib.Core.List.{List}
+use mathlib.Core.Logic.{_⊎_}
+use mathlib.Core.Path.{_≡_}
 use lib.ListN.{length, getD}
+use Rattle.flash.specs.Cuts.{Cut}
 use Rattle.flash.specs.Geometry.{slotSize}
 use Rattle.flash.specs.Steps.{applied, stepCheck}
-use Rattle.flash.specs.Cuts.{Cut}
 use Rattle.flash.specs.declared.geometry.Geometry.{Geometry}
 use Rattle.flash.specs.declared.steps.Step.{Step}
 use Rattle.flash.specs.declared.steps.Step.the-variants.{Erase, Copy, Byte, Mark}

@@ -1,14 +1,14 @@
 -- Document 01, "Flash steps and cuts": what a power loss on a step may leave (the paper's word for it is a cut).
 use Prim.Native.Nat.{ℕ, _+_, _-_, _<_}
-use mathlib.Core.Path.{_≡_}
 use mathlib.Core.Bool.{Bool, true, false, _||_}
+use mathlib.Core.List.{List, []}
 use mathlib.Core.Logic.{_⊎_}
-use mathlib.Core.List.{List, [], _∷_}
-use lib.ListN.{length, drop, getD}
+use mathlib.Core.Path.{_≡_}
 use lib.Dec.{eqb}
+use lib.ListN.{length, drop, getD}
 use Rattle.compare.specs.Compare.{same}
-use Rattle.flash.specs.Geometry.{imageSize}
 use Rattle.flash.specs.Bytes.{overlay}
+use Rattle.flash.specs.Geometry.{imageSize}
 use Rattle.flash.specs.Steps.{closing, applied}
 use Rattle.flash.specs.declared.geometry.Geometry.{Geometry}
 use Rattle.flash.specs.declared.steps.Step.{Step}

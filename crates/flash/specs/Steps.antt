@@ -2,10 +2,10 @@
 use Prim.Native.Nat.{ℕ, _+_, _-_}
 use mathlib.Core.Bool.{Bool, cond, not, _&&_, _||_}
 use mathlib.Core.List.{List, [], _∷_}
-use lib.ListN.{length, take, drop}
 use lib.Dec.{ltb, leb, eqb}
-use Rattle.flash.specs.Geometry.{imageSize, slotSize, aligned, unless, geometryCheck}
+use lib.ListN.{length, take, drop}
 use Rattle.flash.specs.Bytes.{blank, overlay, write}
+use Rattle.flash.specs.Geometry.{imageSize, slotSize, aligned, unless, geometryCheck}
 use Rattle.flash.specs.declared.geometry.Geometry.{Geometry}
 use Rattle.flash.specs.declared.steps.Step.{Step}
 use Rattle.flash.specs.declared.steps.Step.the-variants.{Erase, Copy, Byte, Mark}

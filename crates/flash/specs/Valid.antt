@@ -1,7 +1,7 @@
 -- What a geometry is known for whose check answers 0, as the contracts inside the crate use it.
 use Prim.Native.Nat.{ℕ, _+_, _%_, _≤_}
-use mathlib.Core.Path.{_≡_}
 use mathlib.Core.Logic.{_⊎_}
+use mathlib.Core.Path.{_≡_}
 use Rattle.flash.specs.Geometry.{slotSize}
 use Rattle.flash.specs.declared.geometry.Geometry.{Geometry}
 

@@ -1,12 +1,11 @@
 // Document 01, "Flash steps and cuts": which steps are accepted, and a step carried out.
 ghost use mathlib.Core.Path.{_≡_};
 ghost use mathlib.Core.Bool.{true};
-ghost use mathlib.Core.Logic.{_⊎_};
 ghost use Prim.Native.Nat.{_+_, _^_, _%_, _≤_, _<_};
 ghost use lib.ListN.{length, take, drop};
-ghost use Rattle.flash.specs.Bytes.{write};
+ghost use Rattle.flash.specs.Bytes.{blank, overlay, write};
 ghost use Rattle.flash.specs.Steps.{within, sectorStart, trailerByte, markPlace, accepted, applied};
-ghost use Rattle.flash.specs.Valid.{Valid};
+ghost use Rattle.flash.specs.Valid.{Apart, Valid};
 use crate::bytes::erase;
 use crate::bytes::load;
 use crate::bytes::write;
@@ -73,7 +72,7 @@ pub(crate) fn is_accepted(g: Geometry, len: usize, step: Step) -> bool
 
 // Copies a sector by pages of 256 bytes: the stack is small, and a slice is not lent twice.
 fn copy_sector(flash: &mut [u8], from: usize, to: usize, z: usize)
-    requires { ⌜ (z % 256 ≡ 0) × (from + z ≤ length (now flash)) × (to + z ≤ length (now flash)) × ((from + z ≤ to) ⊎ (to + z ≤ from)) ⌝ }
+    requires { ⌜ (z % 256 ≡ 0) × (from + z ≤ length (now flash)) × (to + z ≤ length (now flash)) × Apart from z to z ⌝ }
     ensures { λ _. ⌜ now (flash .exit) ≡ write (now (flash .entry)) to (take z (drop from (now (flash .entry)))) ⌝ }
 {
     let mut page = [0u8; 256];
@@ -85,18 +84,32 @@ fn copy_sector(flash: &mut [u8], from: usize, to: usize, z: usize)
     }
 }
 
+fn erase_at(flash: &mut [u8], at: usize, z: usize)
+    requires { ⌜ at + z ≤ length (now flash) ⌝ }
+    ensures { λ _. ⌜ now (flash .exit) ≡ overlay (now (flash .entry)) at (blank z) ⌝ }
+{
+    erase(&mut flash[at..], z);
+}
+
+fn write_at(flash: &mut [u8], at: usize, data: &[u8])
+    requires { ⌜ at + length (now «data») ≤ length (now flash) ⌝ }
+    ensures { λ _. ⌜ now (flash .exit) ≡ write (now (flash .entry)) at (now («data» .entry)) ⌝ }
+{
+    write(&mut flash[at..], 0, data);
+}
+
 // An accepted step, whole.
 pub(crate) fn carry_out(flash: &mut [u8], g: Geometry, step: Step)
     requires { ⌜ Valid g (length (now flash)) × (accepted g step ≡ true) ⌝ }
     ensures { λ _. ⌜ now (flash .exit) ≡ applied g (now (flash .entry)) step ⌝ }
 {
     match step {
-        Step::Erase(at) => erase(&mut flash[at..], g.size),
+        Step::Erase(at) => erase_at(flash, at, g.size),
         Step::Copy(from, to) => copy_sector(flash, from, to, g.size),
         Step::Byte(at, v) => {
             let one = [v];
-            write(&mut flash[at..], 0, &one);
+            write_at(flash, at, &one);
         }
-        Step::Mark(at) => write(&mut flash[at..], 0, b"BOOT"),
+        Step::Mark(at) => write_at(flash, at, b"BOOT"),
     }
 }

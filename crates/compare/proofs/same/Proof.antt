@@ -1,14 +1,12 @@
 use Prim.Native.Nat.{_-_, _≤_}
 use mathlib.Core.Path.{_≡_, refl}
 use native.Mathlib.Omega.{arith}
+use borrow.Author.Needs.{needs}
 use lib.ListN.{length, drop}
 use Rattle.compare.specs.Compare.{same}
 use Rattle.compare.proofs.Sameness.{same-lengths, same-stop, same-go, same-end}
-use borrow.Author.Needs.{needs}
 use Rattle.compare.proofs.same.Statement.{statement}
 use Rattle.compare.proofs.same.Tie as tie
-use Rattle.compare.proofs.same.Reads as reads
-use Rattle.compare.proofs.same.Lts as lts
 
 abbrev Inv-loop : tie.InvT-loop
 Inv-loop a b i₀ i = (i ≤ length a) × (same (drop i a) (drop i b) ≡ same a b)
@@ -16,57 +14,31 @@ Inv-loop a b i₀ i = (i ≤ length a) × (same (drop i a) (drop i b) ≡ same a
 abbrev μ-loop : tie.MeasureT-loop
 μ-loop a b i₀ i = length a - i
 
--- src/lib.rt:9:9
 returns : tie.Need-returns Inv-loop μ-loop
 returns c = same-lengths (c .before .args .a .now) (c .before .args .b .now) (c .if1 .taken)
 
--- src/lib.rt:12:5
 loop-holds : tie.Need-loop-holds Inv-loop μ-loop
 loop-holds c = (omega arith, refl)
 
--- src/lib.rt:13:12
-shared-slice-read-if2 : tie.Need-shared-slice-read-if2 Inv-loop μ-loop
-shared-slice-read-if2 c = search needs
-
--- src/lib.rt:13:20
-shared-slice-read-if2-2 : tie.Need-shared-slice-read-if2-2 Inv-loop μ-loop
-shared-slice-read-if2-2 c = search needs
-
--- src/lib.rt:14:13
 returns-2 : tie.Need-returns-2 Inv-loop μ-loop
 returns-2 c =
-    let l = c .before .before .before .before in let a = l .before .before .args in same-stop (l .loop .i) (a .a .now) (a .b .now) (l .before .if1 .left) (l .loop .inv .1) (omega arith) (c .if2 .taken)
+    let l = c .before .before .before .before in
+    let a = l .before .before .args in
+    same-stop (l .loop .i) (a .a .now) (a .b .now) (l .before .if1 .left) (l .loop .inv .1) (omega arith) (c .if2 .taken)
 
--- src/lib.rt:16:9
-add-i : tie.Need-add-i Inv-loop μ-loop
-add-i c = search needs
-
--- src/lib.rt:12:5
-loop-less : tie.Need-loop-less Inv-loop μ-loop
-loop-less c = search needs
-
--- src/lib.rt:12:5
 loop-again : tie.Need-loop-again Inv-loop μ-loop
 loop-again c =
-    let l = c .before .before .before .before in let a = l .before .before .args in (omega arith, same-go (l .loop .i) (a .a .now) (a .b .now) (l .before .if1 .left) (l .loop .inv .1) (omega arith) (c .if2 .left))
+    let l = c .before .before .before .before in
+    let a = l .before .before .args in
+    (omega arith, same-go (l .loop .i) (a .a .now) (a .b .now) (l .before .if1 .left) (l .loop .inv .1) (omega arith) (c .if2 .left))
 
--- src/lib.rt:5:1
 returns-3 : tie.Need-returns-3 Inv-loop μ-loop
 returns-3 c =
-    let l = c .before in let a = l .before .before .args in same-end (l .loop .i) (a .a .now) (a .b .now) (l .before .if1 .left) (l .loop .inv .1) (omega arith)
+    let l = c .before in
+    let a = l .before .before .args in
+    same-end (l .loop .i) (a .a .now) (a .b .now) (l .before .if1 .left) (l .loop .inv .1) (omega arith)
 
 pub same-spec : {M : Type 1} → statement M
 same-spec =
-    tie.close
-    (tie.spec
-    Inv-loop
-    μ-loop
-    returns
-    loop-holds
-    shared-slice-read-if2
-    shared-slice-read-if2-2
-    returns-2
-    add-i
-    loop-less
-    loop-again
-    returns-3)
+    tie.close (tie.spec Inv-loop μ-loop returns loop-holds (λ c. search needs) (λ c. search needs) returns-2 (λ c. search needs) (λ c. search needs)
+    loop-again returns-3)

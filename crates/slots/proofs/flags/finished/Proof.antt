@@ -1,0 +1,41 @@
+use Prim.Native.Nat.{_+_, _-_, _≤_}
+use mathlib.Core.Path.{_≡_, sym, _∙_}
+use native.Mathlib.Omega.{arith}
+use borrow.Author.Needs.{needs}
+use lib.ListN.{drop}
+use Rattle.slots.specs.Flags.{flags, finishedIn}
+use Rattle.slots.proofs.Reading.{zeros-stop, zeros-go, zeros-end}
+use Rattle.slots.proofs.flags.finished.Statement.{statement}
+use Rattle.slots.proofs.flags.finished.Tie as tie
+
+abbrev Inv-loop : tie.InvT-loop
+Inv-loop t n i₀ i = (i ≤ n) × (i + finishedIn (drop i (flags n t)) ≡ finishedIn (flags n t))
+
+abbrev μ-loop : tie.MeasureT-loop
+μ-loop t n i₀ i = n - i
+
+loop-holds : tie.Need-loop-holds Inv-loop μ-loop
+loop-holds c = (omega arith, omega arith)
+
+returns : tie.Need-returns Inv-loop μ-loop
+returns c =
+    let l = c .before .before .before in
+    let a = l .before .before .args in
+    (zeros-stop (a .n) (l .loop .i) (a .t .now) (omega arith) (c .before .flag .ensures) (l .loop .inv .1) (c .if1 .taken), omega arith)
+
+loop-again : tie.Need-loop-again Inv-loop μ-loop
+loop-again c =
+    let l = c .before .before .before in
+    let a = l .before .before .args in
+    (omega arith, zeros-go (a .n) (l .loop .i) (a .t .now) (omega arith) (c .before .flag .ensures) (l .loop .inv .1) (c .if1 .left))
+
+returns-2 : tie.Need-returns-2 Inv-loop μ-loop
+returns-2 c =
+    let l = c .before in
+    let a = l .before .before .args in
+    let e : l .loop .i ≡ a .n = omega arith in
+    (sym e ∙ zeros-end (a .n) (l .loop .i) (a .t .now) (omega arith) (l .loop .inv .1), omega arith)
+
+pub finished-spec : {M : Type 1} → statement M
+finished-spec =
+    tie.close (tie.spec Inv-loop μ-loop loop-holds (λ c κs. search needs) returns (λ c. search needs) (λ c. search needs) loop-again returns-2)

@@ -1,0 +1,38 @@
+-- The answers of the public calls: the geometry's numbers 1 to 4 first.
+use Prim.Native.Nat.{ℕ}
+use mathlib.Core.Bool.{Bool, cond, _&&_}
+use mathlib.Core.List.{List, []}
+use lib.Dec.{eqb}
+use lib.ListN.{length}
+use Rattle.flash.specs.Geometry.{geometryCheck}
+use Rattle.flash.specs.declared.geometry.Geometry.{Geometry}
+use Rattle.slots.specs.Flags.{flags, progressOf, nextFlagOf}
+use Rattle.slots.specs.Places.{trailerOf, imageOf}
+use Rattle.slots.specs.Trailers.{soundWith, renewalOf}
+use Rattle.slots.specs.declared.answers.Progress.{Progress}
+use Rattle.slots.specs.declared.answers.Progress.the-variants as P
+use Rattle.slots.specs.declared.answers.Renewal.{Renewal}
+use Rattle.slots.specs.declared.answers.Renewal.the-variants as R
+use Rattle.slots.specs.declared.places.Slot.{Slot}
+use Rattle.slots.specs.declared.places.Slot.the-variants.{Update}
+
+abbrev number : Geometry → List ℕ → ℕ
+number g f = geometryCheck g (length f)
+
+abbrev accepts : Geometry → List ℕ → Bool
+accepts g f = eqb (number g f) 0
+
+unfoldable pub imageAnswer : Geometry → List ℕ → Slot → List ℕ
+imageAnswer g f s = cond (accepts g f) (imageOf g f s) []
+
+unfoldable pub soundAnswer : Geometry → List ℕ → Slot → ℕ → Bool
+soundAnswer g f s v = accepts g f && soundWith (trailerOf g f s) v
+
+unfoldable pub renewalAnswer : Geometry → List ℕ → Slot → ℕ → Renewal
+renewalAnswer g f s v = cond (accepts g f) (renewalOf g f s v) (R.Refused (number g f))
+
+unfoldable pub progressAnswer : Geometry → List ℕ → Progress
+progressAnswer g f = cond (accepts g f) (progressOf (flags (g .count) (trailerOf g f Update))) (P.Refused (number g f))
+
+unfoldable pub nextFlagAnswer : Geometry → List ℕ → ℕ → Renewal
+nextFlagAnswer g f p = cond (accepts g f) (nextFlagOf g f p) (R.Refused (number g f))

@@ -1,0 +1,35 @@
+-- Claim: well-formed flags of n sectors and the progress numbers from 0 to 3n correspond one to one.
+use Prim.Native.Nat.{ℕ, zero, suc, _-_, _*_, _/_, _%_, _≤_, _<_}
+use mathlib.Core.Bool.{true, cond}
+use mathlib.Core.List.{List, [], _∷_}
+use mathlib.Core.Path.{_≡_}
+use lib.Dec.{eqb, ltb}
+use lib.ListN.{length, getD, replicate}
+use Rattle.compare.specs.Compare.{all}
+use Rattle.slots.specs.Flags.{wellFormed, progress, finishedIn}
+
+-- the current sector's flag: new, swapping, backup
+unfoldable pub flagFor : ℕ → ℕ
+flagFor s = cond (eqb s 0) 15 (cond (eqb s 1) 7 3)
+
+-- the flags of n sectors that a progress stands for
+unfoldable pub flagsFor : ℕ → ℕ → List ℕ
+flagsFor zero p = []
+flagsFor (suc n) p = cond (ltb p 3) (flagFor p ∷ replicate n 15) (0 ∷ flagsFor n (p - 3))
+
+pub record Flags (n p : ℕ) (fs : List ℕ) : Type 0 where
+  pub count : length fs ≡ n
+  pub formed : wellFormed fs ≡ true
+  pub reached : progress fs ≡ p
+
+-- what a progress says, in the words of document 01's decisions
+pub record Says (n p : ℕ) (fs : List ℕ) : Type 0 where
+  pub bound : p ≤ 3 * n
+  pub only : fs ≡ flagsFor n p
+  pub all-new : all 15 fs ≡ eqb p 0
+  pub all-updated : all 0 fs ≡ eqb p (3 * n)
+  pub current : p < 3 * n → (finishedIn fs ≡ p / 3) × (getD fs (p / 3) 0 ≡ flagFor (p % 3))
+
+pub record OneToOne (n : ℕ) : Type 0 where
+  pub stands : (p : ℕ) → p ≤ 3 * n → Flags n p (flagsFor n p)
+  pub says : (p : ℕ) (fs : List ℕ) → Flags n p fs → Says n p fs

@@ -1,0 +1,15 @@
+// What the calls answer.
+use flash::Step;
+
+// How far an exchange has come: three for each finished sector, one or two in the current one.
+pub enum Progress {
+    At(usize),
+    Refused(u32),
+}
+
+// The step that is due, or nothing more to do.
+pub enum Renewal {
+    Due(Step),
+    Finished,
+    Refused(u32),
+}

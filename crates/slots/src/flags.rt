@@ -1,0 +1,136 @@
+// Document 01, "Trailers and flags": the sector flags in UPDATE's trailer t, and how far the exchange
+// has come.
+ghost use mathlib.Core.Path.{_≡_};
+ghost use Prim.Native.Nat.{_+_, _^_, _≤_, _<_};
+ghost use lib.ListN.{length, drop};
+ghost use Rattle.compare.specs.Compare.{all};
+ghost use Rattle.flash.specs.Valid.{Valid};
+ghost use Rattle.slots.specs.Flags.{half, withHalf, FlagPlace, flag, flags, nextFlag, finishedIn, progressOf, flagStep, nextFlagOf};
+use crate::answers::Progress;
+use crate::answers::Renewal;
+use crate::places::Place;
+use crate::places::Slot;
+use crate::places::offset;
+use crate::places::trailer;
+use flash::Geometry;
+use flash::Step;
+
+// The half of a byte that is sector i's flag.
+fn half(i: usize, b: u8) -> u8
+    ensures { λ r. ⌜ r ≡ half i b ⌝ }
+{
+    if i % 2 == 0 { b % 16 } else { b / 16 }
+}
+
+// The byte with that half replaced.
+fn with_half(i: usize, v: u8, b: u8) -> u8
+    requires { ⌜ v < 16 ⌝ }
+    ensures { λ r. ⌜ r ≡ withHalf i v b ⌝ }
+{
+    if i % 2 == 0 {
+        b / 16 * 16 + v
+    } else {
+        v * 16 + b % 16
+    }
+}
+
+// The place of sector i's flag byte.
+fn flag_place(len: usize, i: usize) -> usize
+    requires { ⌜ (256 ≤ len) × (i < 64) ⌝ }
+    ensures { λ r. ⌜ FlagPlace len i r ⌝ }
+{
+    len - 6 - i / 2
+}
+
+fn flag(t: &[u8], i: usize) -> u8
+    requires { ⌜ (256 ≤ length (now t)) × (i < 64) ⌝ }
+    ensures { λ r. ⌜ r ≡ flag (now (t .entry)) i ⌝ }
+{
+    let k = flag_place(t.len(), i);
+    half(i, t[k])
+}
+
+// Whether the flags from a sector on, of n sectors, are all v.
+pub(crate) fn is_rest(t: &[u8], n: usize, from: usize, v: u8) -> bool
+    requires { ⌜ (256 ≤ length (now t)) × (n ≤ 64) × (from ≤ n) ⌝ }
+    ensures { λ r. ⌜ r ≡ all v (drop from (flags n (now (t .entry)))) ⌝ }
+{
+    let mut i = from;
+    while i < n {
+        if flag(t, i) != v {
+            return false;
+        }
+        i += 1;
+    }
+    true
+}
+
+// How many sectors are finished: those before the first whose flag isn't 0.
+fn finished(t: &[u8], n: usize) -> usize
+    requires { ⌜ (256 ≤ length (now t)) × (n ≤ 64) ⌝ }
+    ensures { λ r. ⌜ (r ≡ finishedIn (flags n (now (t .entry)))) × (r ≤ n) ⌝ }
+{
+    let mut i = 0;
+    while i < n {
+        if flag(t, i) != 0 {
+            return i;
+        }
+        i += 1;
+    }
+    n
+}
+
+// The progress by the flags of n sectors, each flag read once.
+pub(crate) fn progress(t: &[u8], n: usize) -> Progress
+    requires { ⌜ (256 ≤ length (now t)) × (n ≤ 64) ⌝ }
+    ensures { λ r. ⌜ r ≡ progressOf (flags n (now (t .entry))) ⌝ }
+{
+    let i = finished(t, n);
+    if i == n {
+        return Progress::At(3 * n);
+    }
+    let v = flag(t, i);
+    if is_rest(t, n, i + 1, 15) {
+        match v {
+            15 => return Progress::At(3 * i),
+            7 => return Progress::At(3 * i + 1),
+            3 => return Progress::At(3 * i + 2),
+            _ => return Progress::Refused(20),
+        }
+    }
+    Progress::Refused(20)
+}
+
+// The flag that follows a progress in its sector.
+fn flag_after(reached: usize) -> u8
+    ensures { λ r. ⌜ (r ≡ nextFlag reached) × (r < 16) ⌝ }
+{
+    let stage = reached % 3;
+    match stage {
+        0 => 7,
+        1 => 3,
+        _ => 0,
+    }
+}
+
+// The step that writes it in the trailer t at an offset.
+fn flag_step(t: &[u8], at: usize, reached: usize) -> Step
+    requires { ⌜ (256 ≤ length (now t)) × (reached < 192) × (at + length (now t) < 2 ^ 64) ⌝ }
+    ensures { λ r. ⌜ r ≡ flagStep at (now (t .entry)) reached ⌝ }
+{
+    let i = reached / 3;
+    let k = flag_place(t.len(), i);
+    Step::Byte(at + k, with_half(i, flag_after(reached), t[k]))
+}
+
+pub(crate) fn next_flag(flash: &[u8], g: Geometry, reached: usize) -> Renewal
+    requires { ⌜ Valid g (length (now flash)) ⌝ }
+    ensures { λ r. ⌜ r ≡ nextFlagOf g (now (flash .entry)) reached ⌝ }
+{
+    if 3 * g.count <= reached {
+        return Renewal::Finished;
+    }
+    let t = trailer(flash, g, Slot::Update);
+    let at = offset(g, Place::Sector(Slot::Update, g.count));
+    Renewal::Due(flag_step(t, at, reached))
+}

@@ -1,0 +1,69 @@
+// What the loader reads of a flash: its slots' images and trailers, and the flags in UPDATE's trailer.
+// Every public function is total: the geometry's numbers 1 to 4 first, then what document 01 says.
+mod answers;
+mod flags;
+mod places;
+mod trailers;
+
+ghost use mathlib.Core.Path.{_≡_};
+ghost use Rattle.slots.specs.Answers.{imageAnswer, soundAnswer, renewalAnswer, progressAnswer, nextFlagAnswer};
+pub use answers::Progress;
+pub use answers::Renewal;
+use flash::Geometry;
+use flash::check_geometry;
+pub use places::Place;
+pub use places::Slot;
+
+// A slot's image, or the empty part where the geometry is refused.
+pub fn image(flash: &[u8], g: Geometry, slot: Slot) -> &[u8]
+    ensures { λ r. ⌜ now r ≡ imageAnswer g (now (flash .entry)) slot ⌝ }
+{
+    if check_geometry(g, flash.len()) != 0 {
+        return &flash[..0];
+    }
+    places::image(flash, g, slot)
+}
+
+// Whether a slot's trailer is sound with a state; not where the geometry is refused.
+pub fn is_sound_with(flash: &[u8], g: Geometry, slot: Slot, state: u8) -> bool
+    ensures { λ r. ⌜ r ≡ soundAnswer g (now (flash .entry)) slot state ⌝ }
+{
+    if check_geometry(g, flash.len()) != 0 {
+        return false;
+    }
+    trailers::is_sound_with(places::trailer(flash, g, slot), state)
+}
+
+// The next step that renews a slot's trailer to a state.
+pub fn renewal(flash: &[u8], g: Geometry, slot: Slot, state: u8) -> Renewal
+    ensures { λ r. ⌜ r ≡ renewalAnswer g (now (flash .entry)) slot state ⌝ }
+{
+    let number = check_geometry(g, flash.len());
+    if number != 0 {
+        return Renewal::Refused(number);
+    }
+    trailers::renewal(flash, g, slot, state)
+}
+
+// How far the exchange has come, by the flags: three for each finished sector, one or two in the
+// current one. 20 where they are ill-formed.
+pub fn progress(flash: &[u8], g: Geometry) -> Progress
+    ensures { λ r. ⌜ r ≡ progressAnswer g (now (flash .entry)) ⌝ }
+{
+    let number = check_geometry(g, flash.len());
+    if number != 0 {
+        return Progress::Refused(number);
+    }
+    flags::progress(places::trailer(flash, g, Slot::Update), g.count)
+}
+
+// The step that writes the flag after a progress, or finished where all flags are 0.
+pub fn next_flag(flash: &[u8], g: Geometry, reached: usize) -> Renewal
+    ensures { λ r. ⌜ r ≡ nextFlagAnswer g (now (flash .entry)) reached ⌝ }
+{
+    let number = check_geometry(g, flash.len());
+    if number != 0 {
+        return Renewal::Refused(number);
+    }
+    flags::next_flag(flash, g, reached)
+}

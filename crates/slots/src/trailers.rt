@@ -1,0 +1,77 @@
+// Document 01, "Trailers and flags": a slot's trailer, and its renewal to a state.
+ghost use mathlib.Core.Path.{_≡_};
+ghost use Prim.Native.Nat.{_+_, _^_, _≤_, _<_};
+ghost use lib.ListN.{length};
+ghost use Rattle.flash.specs.Valid.{Valid};
+ghost use Rattle.slots.specs.Trailers.{soundWith, allButState, flagCount, renewedTo, renew, renewalOf};
+use crate::answers::Renewal;
+use crate::flags::is_rest;
+use crate::places::Place;
+use crate::places::Slot;
+use crate::places::offset;
+use crate::places::trailer;
+use compare::all;
+use compare::same;
+use flash::Geometry;
+use flash::Step;
+
+pub(crate) fn is_sound_with(t: &[u8], state: u8) -> bool
+    requires { ⌜ 256 ≤ length (now t) ⌝ }
+    ensures { λ r. ⌜ r ≡ soundWith (now (t .entry)) state ⌝ }
+{
+    let end = t.len() - 4;
+    same(&t[end..], b"BOOT") & (t[end - 1] == state)
+}
+
+// Whether a trailer is all FF except the state byte, which is state.
+fn is_all_but_state(t: &[u8], state: u8) -> bool
+    requires { ⌜ 256 ≤ length (now t) ⌝ }
+    ensures { λ r. ⌜ r ≡ allButState (now (t .entry)) state ⌝ }
+{
+    let end = t.len() - 4;
+    let at = end - 1;
+    all(0xFF, &t[..at]) & (t[at] == state) & all(0xFF, &t[end..])
+}
+
+// The flags that a renewed trailer of a slot has new: BOOT has none.
+fn flag_count(g: Geometry, slot: Slot) -> usize
+    ensures { λ r. ⌜ r ≡ flagCount g slot ⌝ }
+{
+    match slot {
+        Slot::Boot => 0,
+        Slot::Update => g.count,
+    }
+}
+
+fn is_renewed(t: &[u8], flags: usize, state: u8) -> bool
+    requires { ⌜ (256 ≤ length (now t)) × (flags ≤ 64) ⌝ }
+    ensures { λ r. ⌜ r ≡ renewedTo (now (t .entry)) flags state ⌝ }
+{
+    is_sound_with(t, state) & is_rest(t, flags, 0, 15)
+}
+
+// The step that renews the trailer t at an offset, with as many flags.
+fn renew(t: &[u8], at: usize, flags: usize, state: u8) -> Renewal
+    requires { ⌜ (256 ≤ length (now t)) × (flags ≤ 64) × (at + length (now t) < 2 ^ 64) ⌝ }
+    ensures { λ r. ⌜ r ≡ renew at (now (t .entry)) flags state ⌝ }
+{
+    if is_renewed(t, flags, state) {
+        return Renewal::Finished;
+    }
+    if all(0xFF, t) {
+        return Renewal::Due(Step::Byte(at + t.len() - 5, state));
+    }
+    if is_all_but_state(t, state) {
+        return Renewal::Due(Step::Mark(at + t.len() - 4));
+    }
+    Renewal::Due(Step::Erase(at))
+}
+
+pub(crate) fn renewal(flash: &[u8], g: Geometry, slot: Slot, state: u8) -> Renewal
+    requires { ⌜ Valid g (length (now flash)) ⌝ }
+    ensures { λ r. ⌜ r ≡ renewalOf g (now (flash .entry)) slot state ⌝ }
+{
+    let t = trailer(flash, g, slot);
+    let at = offset(g, Place::Sector(slot, g.count));
+    renew(t, at, flag_count(g, slot), state)
+}
