@@ -1,0 +1,92 @@
+#!/usr/bin/env python3
+"""Writes the files of the program flash_cases with an implementation written from document 01 alone, flash_rules.py.
+The cases stand beside it, with the answers that document 01 states or that a reader of it can write down, and the
+implementation is held to those first.
+Usage: flash.py stdin > crates/flash_cases/stdin, and flash.py stdout > crates/flash_cases/stdout"""
+import struct
+import sys
+
+sys.dont_write_bytecode = True
+import flash_flags
+import flash_geometries
+import flash_rules as rules
+import flash_steps
+import flash_trailers
+from flash_case import digest
+
+CASES = flash_geometries.CASES + flash_steps.CASES + flash_trailers.CASES + flash_flags.CASES
+# The numbers that each command has to answer somewhere, beside 0.
+NUMBERS = {"G": {1, 2, 3, 4}, "S": {1, 2, 3, 4, 24}, "R": {1, 2, 3, 4}, "P": {1, 2, 3, 4, 20}, "F": {1, 2, 3, 4},
+           "T": set(), "I": set()}
+
+
+def record(case):
+    """The case as the program reads it: name, numbers, and what is laid over a flash of FF."""
+    name = case.name.encode("ascii")
+    head = struct.pack("<BBH8Q", ord(case.command), case.kind, case.value, case.geometry.z, case.geometry.n,
+                       case.geometry.boot, case.geometry.update, case.geometry.swap, case.geometry.length, case.at,
+                       case.to)
+    patches = b"".join(struct.pack("<HH", place, len(data)) + data for place, data in case.patches)
+    return bytes([len(name)]) + name + head + struct.pack("<H", len(patches)) + patches
+
+
+def step_text(step):
+    return "FINISHED" if step is None else " ".join(map(str, step))
+
+
+def accepted(case):
+    """What the program prints after the name where nothing is refused."""
+    if case.command == "G":
+        rules.check(case.geometry)
+        return "OK"
+    asked = case.geometry, case.flash()
+    if case.command == "S":
+        return f"0 {digest(rules.apply(*asked, case.kind, case.at, case.to, case.value))}"
+    if case.command == "R":
+        return step_text(rules.renewal(*asked, case.kind, case.value))
+    if case.command == "P":
+        return str(rules.progress(*asked))
+    if case.command == "F":
+        return step_text(rules.flag_step(*asked, case.at))
+    if case.command == "T":
+        return "YES" if rules.sound_with(*asked, case.kind, case.value) else "NO"
+    image = rules.image(*asked, case.kind)
+    return f"{len(image)} {digest(image)}"
+
+
+def answer(case):
+    """The number, and what the program prints after the name."""
+    try:
+        return 0, accepted(case)
+    except rules.Refused as refused:
+        number = refused.args[0]
+        return number, f"{number} {digest(case.flash())}" if case.command == "S" else f"REFUSE {number}"
+
+
+def check(answers):
+    """Each case answers what it states, each command's numbers occur, no name occurs twice, and no flash is large."""
+    for case, (_, text) in zip(CASES, answers):
+        assert text == case.says, f"{case.name}: {text}, not {case.says}"
+        assert case.command == "G" or case.geometry.length <= 8192, case.name
+    for command, numbers in NUMBERS.items():
+        seen = {number for case, (number, _) in zip(CASES, answers) if case.command == command}
+        assert seen == {0} | numbers, (command, seen)
+    names = [case.name for case in CASES]
+    assert len(set(names)) == len(names), [name for name in names if names.count(name) > 1]
+
+
+def main():
+    answers = [answer(case) for case in CASES]
+    check(answers)
+    data = b"".join(map(record, CASES))
+    assert len(data) < 60000, len(data)
+    if sys.argv[1:] == ["stdin"]:
+        sys.stdout.buffer.write(data)
+    elif sys.argv[1:] == ["stdout"]:
+        for case, (_, text) in zip(CASES, answers):
+            print(f"{case.name}: {text}")
+    else:
+        sys.exit("usage: flash.py stdin | stdout")
+
+
+main()
