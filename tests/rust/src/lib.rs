@@ -4,6 +4,7 @@ pub mod frondicare;
 pub mod header;
 pub mod images;
 pub mod random;
+pub mod records;
 pub mod seen;
 pub mod sha256;
 pub mod writer;

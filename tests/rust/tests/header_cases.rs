@@ -1,31 +1,12 @@
 //! The plain header against the cases that tests/vectors/header.py made and answered, so that the two independent
 //! implementations confirm each other. Nothing here calls the library.
 use frondicare_tests::frondicare::PAINT;
+use frondicare_tests::records::{same_lines, text_or_refusal, Input};
 use frondicare_tests::writer::{self, Fields, Parts};
 use frondicare_tests::{header, hex};
 
 const INPUT: &[u8] = include_bytes!("../../../crates/header_cases/stdin");
 const OUTPUT: &str = include_str!("../../../crates/header_cases/stdout");
-
-/// What is left of the input.
-struct Input(&'static [u8]);
-
-impl Input {
-    fn bytes(&mut self, n: usize) -> &'static [u8] {
-        let (bytes, rest) = self.0.split_at(n);
-        self.0 = rest;
-        bytes
-    }
-
-    /// A little-endian number of n bytes.
-    fn number(&mut self, n: usize) -> u64 {
-        self.bytes(n).iter().rev().fold(0, |number, &byte| number << 8 | byte as u64)
-    }
-}
-
-fn text_or_refusal<T>(answer: Result<T, u32>, text: impl Fn(T) -> String) -> String {
-    answer.map_or_else(|number| format!("REFUSE {number}"), text)
-}
 
 fn written(buffer_len: usize, parts: &Parts, signature: &[u8; 64]) -> String {
     let mut buffer = vec![PAINT; buffer_len];
@@ -48,8 +29,7 @@ fn write(input: &mut Input, command: u8, fields: Fields, sizes: [usize; 3]) -> S
 
 /// Reads one record and gives the line it should print.
 fn answer(input: &mut Input) -> String {
-    let n = input.number(1) as usize;
-    let name = std::str::from_utf8(input.bytes(n)).unwrap();
+    let name = input.name();
     let (command, signature_ok, kind) = (input.number(1) as u8, input.number(1) == 1, input.number(2) as u16);
     let (a, b) = (input.number(4) as usize, input.number(4) as usize);
     let version = input.number(4) as u32;
@@ -68,13 +48,5 @@ fn answer(input: &mut Input) -> String {
 
 #[test]
 fn cases() {
-    let mut input = Input(INPUT);
-    let mut lines = OUTPUT.lines();
-    let mut count = 0;
-    while !input.0.is_empty() {
-        assert_eq!(Some(answer(&mut input).as_str()), lines.next());
-        count += 1;
-    }
-    assert_eq!(lines.next(), None);
-    assert!(count >= 100, "{count} cases");
+    same_lines(INPUT, OUTPUT, answer, 100);
 }
