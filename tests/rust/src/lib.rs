@@ -1,5 +1,6 @@
 //! The static library seen from Rust, an independent implementation to hold it to, and random input for both.
 pub mod damage;
+pub mod flash;
 pub mod frondicare;
 pub mod header;
 pub mod images;
@@ -7,6 +8,7 @@ pub mod random;
 pub mod records;
 pub mod seen;
 pub mod sha256;
+pub mod trailers;
 pub mod writer;
 
 /// The name of the test that runs, for what it prints.
