@@ -5,14 +5,16 @@
  * refusal writes nothing.
  *
  * What a caller owes: a pointer and its length describe memory that can be read; a hint is 32 bytes
- * and a signature 64 bytes that can be read; a digest is 32 bytes and a buffer buffer_len bytes that
- * can be written and that no other argument reaches. Arguments that are only read may overlap. No
- * pointer is null, also where its length is 0.
+ * and a signature 64 bytes that can be read; a digest is 32 bytes, a buffer buffer_len bytes and a
+ * flash flash_len bytes that can be written and that no other argument reaches. Arguments that are
+ * only read may overlap. No pointer is null, also where its length is 0.
  *
  * To check an image before it is started:
  *     frondicare_verify(image, image_len, signature_ok) == 0
  * To make one: frondicare_digest_to_sign, sign the digest, then frondicare_write_header with the
- * same arguments; the image is the 256 bytes of the buffer, then the firmware. */
+ * same arguments; the image is the 256 bytes of the buffer, then the firmware.
+ * To write the flash: frondicare_apply_step, one step at a time. An offset counts from the start of
+ * the flash. */
 #ifndef FRONDICARE_H
 #define FRONDICARE_H
 
@@ -38,6 +40,14 @@ typedef struct {
     size_t at;
     size_t len;
 } frondicare_tag;
+
+/* The kinds of a step. */
+enum {
+    FRONDICARE_ERASE = 0,
+    FRONDICARE_COPY = 1,
+    FRONDICARE_BYTE = 2,
+    FRONDICARE_MARK = 3
+};
 
 /* SHA-256 (FIPS 180-4) of a message. 12: longer than 4,294,967,295 bytes. */
 uint32_t frondicare_digest(const uint8_t *message, size_t message_len, uint8_t digest[32]);
@@ -75,6 +85,27 @@ uint32_t frondicare_write_header(uint8_t *buffer, size_t buffer_len, frondicare_
                                  const uint8_t *firmware, size_t firmware_len,
                                  const uint8_t *custom, size_t custom_len,
                                  const uint8_t hint[32], const uint8_t signature[64]);
+
+/* Whether the three areas fit a flash of flash_len bytes. BOOT and UPDATE are sector_count + 1
+ * sectors each, the last of them the trailer; SWAP is one sector; boot, update and swap are their
+ * offsets. Areas may touch. 1: sector_size is not 256, 512, 1024, 2048 or 4096; 2: sector_count is not
+ * 1 to 64; 3: an offset is not a multiple of sector_size, or an area passes the end; 4: areas overlap.
+ * The first that applies is answered. */
+uint32_t frondicare_check_geometry(size_t flash_len, size_t sector_size, size_t sector_count,
+                                   size_t boot, size_t update, size_t swap);
+
+/* Carries out one step on the flash. op is one of:
+ * FRONDICARE_ERASE: the sector that starts at `at` becomes all FF;
+ * FRONDICARE_COPY: the sector that starts at `at` is copied onto another, which starts at `to`;
+ * FRONDICARE_BYTE: value, at most 255, is written at `at`, within a trailer;
+ * FRONDICARE_MARK: 42 4F 4F 54 is written at `at`, a slot's last four bytes.
+ * Sectors are those of the three areas. All but an erase can only clear bits: a byte becomes what it
+ * was AND what is written. Arguments that an op doesn't use are ignored. 1 to 4 as above; 24: the
+ * step is not accepted. */
+uint32_t frondicare_apply_step(uint8_t *flash, size_t flash_len,
+                               size_t sector_size, size_t sector_count,
+                               size_t boot, size_t update, size_t swap,
+                               uint32_t op, size_t at, size_t to, uint32_t value);
 
 #ifdef __cplusplus
 }

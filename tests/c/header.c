@@ -1,16 +1,20 @@
-/* The C header as a loader uses it: writes a header, verifies the image, finds its tags, and sees that a
- * refused call leaves its buffer. Says which check failed. */
+/* The C header as a loader uses it: writes a header, verifies the image, finds its tags, exchanges a sector of
+ * two slots, and sees that a refused call leaves its buffer and the flash. Says which check failed. */
 #include "frondicare.h"
 #include <stdio.h>
 #include <string.h>
 
 enum { HEADER = 256, FIRMWARE = 1000, PAINT = 0xa5 };
+/* Document 01's geometry G, and where its trailers have their states. */
+enum { SECTOR = 256, SECTORS = 2, BOOT = 0, UPDATE = 768, SWAP = 1536, FLASH = 1792 };
+enum { BOOT_STATE = 763, UPDATE_FLAGS = 1530, UPDATE_STATE = 1531 };
 
 static const frondicare_fields fields = { 0x01020304, 0x1112131415161718, 0x2122 };
 static const uint8_t custom[] = { 0x42, 0x00, 0x03, 0x00, 'a', 'b', 'c' };
 static const uint8_t padding[] = { 0xff };
 static uint8_t image[HEADER + FIRMWARE];
 static uint8_t hint[32], signature[64];
+static uint8_t flash[FLASH];
 static int checks, failures;
 
 static void check(bool right, const char *what)
@@ -77,6 +81,68 @@ static void refused(void)
     check(memcmp(digest, untouched, sizeof digest) == 0, "digest after a refusal");
 }
 
+static uint32_t step(uint32_t op, size_t at, size_t to, uint32_t value)
+{
+    return frondicare_apply_step(flash, FLASH, SECTOR, SECTORS, BOOT, UPDATE, SWAP, op, at, to, value);
+}
+
+/* So many bytes of the flash from a place on have this value. */
+static bool holds(size_t at, uint8_t value, size_t length)
+{
+    while (length > 0 && flash[at] == value) {
+        at++;
+        length--;
+    }
+    return length == 0;
+}
+
+/* Sector 0 of two slots changes places, as an update begins; then BOOT's trailer is closed. */
+static void exchanged(void)
+{
+    memset(flash, 0xff, FLASH);
+    memset(flash + BOOT, 0x11, SECTOR);
+    memset(flash + UPDATE, 0x22, SECTOR);
+    check(frondicare_check_geometry(FLASH, SECTOR, SECTORS, BOOT, UPDATE, SWAP) == 0, "geometry");
+    check(step(FRONDICARE_COPY, UPDATE, SWAP, 0) == 0, "copy to SWAP");
+    check(step(FRONDICARE_BYTE, UPDATE_FLAGS, 0, 0xf7) == 0, "flag");
+    check(step(FRONDICARE_ERASE, UPDATE, 0, 0) == 0 && holds(UPDATE, 0xff, SECTOR), "erase");
+    check(step(FRONDICARE_COPY, BOOT, UPDATE, 0) == 0 && step(FRONDICARE_ERASE, BOOT, 0, 0) == 0, "copy to UPDATE");
+    check(step(FRONDICARE_COPY, SWAP, BOOT, 0) == 0, "copy to BOOT");
+    check(step(FRONDICARE_BYTE, BOOT_STATE, 0, 0x10) == 0, "state");
+    check(step(FRONDICARE_MARK, BOOT_STATE + 1, 0, 0) == 0, "mark");
+    check(holds(BOOT, 0x22, SECTOR) && holds(UPDATE, 0x11, SECTOR) && holds(SWAP, 0x22, SECTOR), "sectors exchanged");
+    check(holds(SECTOR, 0xff, BOOT_STATE - SECTOR), "BOOT up to its state");
+    check(memcmp(flash + BOOT_STATE, "\x10" "BOOT", 5) == 0, "BOOT's state and closing bytes");
+    check(holds(UPDATE + SECTOR, 0xff, UPDATE_FLAGS - UPDATE - SECTOR), "UPDATE up to its flags");
+    check(flash[UPDATE_FLAGS] == 0xf7 && holds(UPDATE_STATE, 0xff, 5), "UPDATE's flags and state");
+    check(step(FRONDICARE_BYTE, UPDATE_FLAGS, 0, 0xfb) == 0 && flash[UPDATE_FLAGS] == 0xf3, "bits are only cleared");
+}
+
+static void refused_geometry(void)
+{
+    check(frondicare_check_geometry(FLASH, 255, SECTORS, BOOT, UPDATE, SWAP) == 1, "sector size");
+    check(frondicare_check_geometry(FLASH, SECTOR, 65, BOOT, UPDATE, SWAP) == 2, "sector count");
+    check(frondicare_check_geometry(FLASH - 1, SECTOR, SECTORS, BOOT, UPDATE, SWAP) == 3, "flash too short");
+    check(frondicare_check_geometry(FLASH, SECTOR, SECTORS, SIZE_MAX - 255, UPDATE, SWAP) == 3, "BOOT near 2^64");
+    check(frondicare_check_geometry(FLASH, SECTOR, SECTORS, BOOT, UPDATE, 1280) == 4, "areas overlap");
+}
+
+static void refused_step(void)
+{
+    uint8_t before[FLASH];
+    memset(flash, PAINT, FLASH);
+    memcpy(before, flash, FLASH);
+    check(step(FRONDICARE_ERASE, 1, 0, 0) == 24, "erase within a sector");
+    check(step(FRONDICARE_COPY, SWAP, SWAP, 0) == 24, "copy onto itself");
+    check(step(FRONDICARE_COPY, SWAP, SIZE_MAX - 255, 0) == 24, "copy near 2^64");
+    check(step(FRONDICARE_BYTE, BOOT, 0, 0) == 24, "byte in an image");
+    check(step(FRONDICARE_BYTE, BOOT_STATE, 0, 256) == 24, "byte of 9 bits");
+    check(step(FRONDICARE_MARK, BOOT_STATE, 0, 0) == 24, "mark at a state");
+    check(step(FRONDICARE_MARK + 1, BOOT, 0, 0) == 24, "no such step");
+    check(frondicare_apply_step(flash, FLASH, SECTOR, SECTORS, BOOT, 512, SWAP, 4, BOOT, 0, 0) == 4, "4 before 24");
+    check(memcmp(flash, before, FLASH) == 0, "flash after refusals");
+}
+
 int main(void)
 {
     size_t i;
@@ -86,6 +152,9 @@ int main(void)
     memset(signature, 0x44, sizeof signature);
     written_and_read();
     refused();
+    exchanged();
+    refused_geometry();
+    refused_step();
     printf("C header: %d checks, %d failed\n", checks, failures);
     return failures != 0;
 }

@@ -14,6 +14,7 @@ static uint8_t stack[ROOM] __attribute__((aligned(64)));
 static uint8_t image[256 + 1000];
 static uint8_t *const message = image + 256;
 static uint8_t digest[32];
+static uint8_t flash[5 * 4096];
 static uint32_t number;
 static ucontext_t main_context, call_context;
 
@@ -34,6 +35,21 @@ static void write_header(void)
 {
     number = frondicare_write_header(image, 256, fields, message, 1000, custom, sizeof custom, message, message);
 }
+
+static void check_geometry(void)
+{
+    number = frondicare_check_geometry(sizeof flash, 4096, 1, 0, 2 * 4096, 4 * 4096);
+}
+
+static void apply(uint32_t op, size_t at)
+{
+    number = frondicare_apply_step(flash, sizeof flash, 4096, 1, 0, 2 * 4096, 4 * 4096, op, at, 4 * 4096, 0);
+}
+
+static void erase(void) { apply(FRONDICARE_ERASE, 0); }
+static void copy(void) { apply(FRONDICARE_COPY, 0); }
+static void byte(void) { apply(FRONDICARE_BYTE, 4096); }
+static void mark(void) { apply(FRONDICARE_MARK, 2 * 4096 - 4); }
 
 /* Bytes of the painted stack that a call changed, from its top. */
 static size_t used_by(void (*call)(void))
@@ -81,5 +97,10 @@ int main(void)
     failed |= report("frondicare_write_header", write_header, base, MOST);
     failed |= report("frondicare_find_tag", find_tag, base, MOST);
     failed |= report("frondicare_verify", verify, base, MOST);
+    failed |= report("frondicare_check_geometry", check_geometry, base, MOST);
+    failed |= report("frondicare_apply_step, erase", erase, base, MOST);
+    failed |= report("frondicare_apply_step, copy", copy, base, MOST);
+    failed |= report("frondicare_apply_step, byte", byte, base, MOST);
+    failed |= report("frondicare_apply_step, mark", mark, base, MOST);
     return failed;
 }

@@ -1,4 +1,6 @@
 //! The C entries, as include/frondicare.h declares them. A slice is a pointer and then a length.
+use crate::flash::Geometry;
+use crate::raw_step::RawStep;
 use crate::writer::{Fields, Parts};
 
 /// What a lookup answers: where the content lies, or a number and 0, 0.
@@ -40,6 +42,27 @@ extern "C" {
         custom_len: usize,
         hint: *const u8,
         signature: *const u8,
+    ) -> u32;
+    fn frondicare_check_geometry(
+        flash_len: usize,
+        sector_size: usize,
+        sector_count: usize,
+        boot: usize,
+        update: usize,
+        swap: usize,
+    ) -> u32;
+    fn frondicare_apply_step(
+        flash: *mut u8,
+        flash_len: usize,
+        sector_size: usize,
+        sector_count: usize,
+        boot: usize,
+        update: usize,
+        swap: usize,
+        op: u32,
+        at: usize,
+        to: usize,
+        value: u32,
     ) -> u32;
 }
 
@@ -109,4 +132,16 @@ pub fn write_header(buffer_len: usize, parts: &Parts, signature: &[u8; 64]) -> (
     assert!(out[buffer_len..].iter().all(|&byte| byte == PAINT), "bytes after the buffer were written");
     out.truncate(buffer_len);
     (number, out)
+}
+
+pub fn check_geometry(flash_len: usize, geometry: &Geometry) -> u32 {
+    let Geometry { sector_size, sector_count, boot, update, swap } = *geometry;
+    unsafe { frondicare_check_geometry(flash_len, sector_size, sector_count, boot, update, swap) }
+}
+
+pub fn apply_step(flash: &mut [u8], geometry: &Geometry, step: impl Into<RawStep>) -> u32 {
+    let Geometry { sector_size, sector_count, boot, update, swap } = *geometry;
+    let RawStep { op, at, to, value } = step.into();
+    let (flash, len) = (flash.as_mut_ptr(), flash.len());
+    unsafe { frondicare_apply_step(flash, len, sector_size, sector_count, boot, update, swap, op, at, to, value) }
 }

@@ -2,9 +2,12 @@
 pub mod damage;
 pub mod flash;
 pub mod frondicare;
+pub mod guarded;
 pub mod header;
 pub mod images;
+pub mod layouts;
 pub mod random;
+pub mod raw_step;
 pub mod records;
 pub mod seen;
 pub mod sha256;

@@ -1,0 +1,54 @@
+//! A flash on which the library and the plain implementation carry out the same steps.
+use crate::flash::{self, Geometry};
+use crate::frondicare::{self, PAINT};
+use crate::raw_step::RawStep;
+
+/// Bytes before and after a flash that are not lent: more than a sector.
+const GUARD: usize = 4096 + 64;
+
+fn plain_apply(flash: &mut [u8], geometry: &Geometry, step: RawStep) -> u32 {
+    let answer = match step.step() {
+        Some(step) => flash::apply(flash, geometry, step),
+        None => geometry.areas(flash.len()).and(Err(24)),
+    };
+    answer.err().unwrap_or(0)
+}
+
+/// A flash with bytes around it that have to stay.
+pub struct Guarded {
+    bytes: Vec<u8>,
+    start: usize,
+    len: usize,
+}
+
+impl Guarded {
+    /// The shift lets a flash start at any address.
+    pub fn new(contents: &[u8], shift: usize) -> Guarded {
+        let start = GUARD + shift;
+        Guarded { bytes: [&vec![PAINT; start], contents, &[PAINT; GUARD]].concat(), start, len: contents.len() }
+    }
+
+    pub fn flash(&self) -> &[u8] {
+        &self.bytes[self.start..][..self.len]
+    }
+
+    /// The library's answer. It is the plain one, so is every byte afterwards, and a refusal changes none.
+    pub fn apply(&mut self, geometry: &Geometry, step: impl Into<RawStep>) -> u32 {
+        let (step, before) = (step.into(), self.bytes.clone());
+        let mut expected = before.clone();
+        let number = plain_apply(&mut expected[self.start..][..self.len], geometry, step);
+        let answer = frondicare::apply_step(&mut self.bytes[self.start..][..self.len], geometry, step);
+        assert_eq!(answer, number, "{geometry:?}, flash of {}, {step:?}", self.len);
+        assert!(
+            answer == 0 || self.bytes == before,
+            "{geometry:?}, flash of {}, {step:?}: refused, and written",
+            self.len
+        );
+        if self.bytes != expected {
+            let i = (0..expected.len()).find(|&i| self.bytes[i] != expected[i]).unwrap();
+            let (place, is, should) = (i as isize - self.start as isize, self.bytes[i], expected[i]);
+            panic!("{geometry:?}, flash of {}, {step:?}: {is:02x} at {place}, not {should:02x}", self.len);
+        }
+        answer
+    }
+}
