@@ -3,6 +3,7 @@
 mod compare;
 
 use compare::compare;
+use frondicare_tests::flash::{self, Geometry, Step};
 use frondicare_tests::frondicare::{self, PAINT};
 use frondicare_tests::writer::{self, Fields, Parts};
 use frondicare_tests::{header, sha256};
@@ -46,6 +47,23 @@ fn verdict(name: &str, calls: usize, firmware: &[u8]) {
     );
 }
 
+/// A copy onto SWAP and its erase, each on a flash of its own. A later call writes the same bytes again.
+fn steps(sector_size: usize, calls: usize) {
+    let geometry = Geometry { sector_size, sector_count: 2, boot: 0, update: 3 * sector_size, swap: 6 * sector_size };
+    let (from, to) = (geometry.boot, geometry.swap);
+    for (name, step) in [("copy", Step::Copy { from, to }), ("erase", Step::Erase { at: to })] {
+        let mut plain = pattern(7 * sector_size as u32);
+        let mut proved = plain.clone();
+        compare(
+            &format!("{name}, sector of {sector_size} bytes"),
+            calls,
+            || flash::apply(black_box(&mut plain), black_box(&geometry), black_box(step)).err().unwrap_or(0),
+            || frondicare::apply_step(black_box(&mut proved), black_box(&geometry), black_box(step)),
+        );
+        assert_eq!(plain, proved, "{name}");
+    }
+}
+
 fn main() {
     let firmware = pattern(256 * 1024);
     digests(&firmware);
@@ -57,4 +75,6 @@ fn main() {
         || plain_header(black_box(&firmware)),
         || frondicare::write_header(header::SIZE, &parts(black_box(&firmware)), &SIGNATURE),
     );
+    steps(4096, 20_000);
+    steps(256, 200_000);
 }
