@@ -13,17 +13,16 @@ use libc::STDIN_FILENO;
 use libc::STDOUT_FILENO;
 use record::HEAD;
 use record::KEYS;
-use record::byte_at;
-use record::copy;
 use record::fields;
-use record::part;
+use records::byte_at;
+use records::copy;
+use records::part;
 
 // F: the place and the length of a tag's content.
 fn find_tag(header: &[u8], kind: u16) {
     match header::find_tag(header, kind) {
         Lookup::Found(t) => {
-            io::print_decimal(STDOUT_FILENO, t.at as u64);
-            io::write_all(STDOUT_FILENO, b" ");
+            show::field(t.at as u64);
             show::decimal(t.len as u64);
         }
         Lookup::Refused(number) => show::refusal(number),
@@ -64,8 +63,7 @@ fn write_header(buffer: &mut [u8], head: &[u8], firmware: &[u8], custom: &[u8], 
     let mut signature = [0u8; 64];
     copy(part(keys, 32, 64), &mut signature);
     let number = writer::write_header(buffer, fields(head), firmware, custom, &hint, &signature);
-    io::print_decimal(STDOUT_FILENO, number as u64);
-    io::write_all(STDOUT_FILENO, b" ");
+    show::field(number as u64);
     show::hex(buffer);
 }
 

@@ -1,0 +1,16 @@
+-- What is read of a record's bytes s. What isn't there reads as zeros, or as the empty part.
+use Prim.Native.Nat.{ℕ, zero, suc, _+_}
+use mathlib.Core.Bool.{cond}
+use mathlib.Core.List.{List, [], _∷_, _++_}
+use lib.Dec.{leb}
+use lib.ListN.{length, take, drop}
+use Rattle.header.specs.Numbers.{byteAt}
+
+-- n bytes from a place on, where there are so many
+unfoldable pub partOf : List ℕ → ℕ → ℕ → List ℕ
+partOf s from n = cond (leb (from + n) (length s)) (take n (drop from s)) []
+
+-- the first k bytes
+unfoldable pub firstOf : ℕ → List ℕ → List ℕ
+firstOf zero s = []
+firstOf (suc k) s = firstOf k s ++ (byteAt s k ∷ [])
