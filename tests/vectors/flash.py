@@ -67,7 +67,7 @@ def check(answers):
     """Each case answers what it states, each command's numbers occur, no name occurs twice, and no flash is large."""
     for case, (_, text) in zip(CASES, answers):
         assert text == case.says, f"{case.name}: {text}, not {case.says}"
-        assert case.command == "G" or case.geometry.length <= 8192, case.name
+        assert case.command == "G" or case.geometry.length <= 65_536, case.name
     for command, numbers in NUMBERS.items():
         seen = {number for case, (number, _) in zip(CASES, answers) if case.command == command}
         assert seen == {0} | numbers, (command, seen)
@@ -79,7 +79,7 @@ def main():
     answers = [answer(case) for case in CASES]
     check(answers)
     data = b"".join(map(record, CASES))
-    assert len(data) < 60000, len(data)
+    assert len(data) <= 262_144, len(data)
     if sys.argv[1:] == ["stdin"]:
         sys.stdout.buffer.write(data)
     elif sys.argv[1:] == ["stdout"]:

@@ -7,6 +7,7 @@ from flash_rules import Geometry
 TOP = 2 ** 64
 FOUR = Geometry(z=256, n=4, boot=0, update=1280, swap=2560, length=2816)
 THIRTEEN = Geometry(z=256, n=13, boot=0, update=3584, swap=7168, length=8192)
+LARGEST = Geometry(z=256, n=64, boot=0, update=16640, swap=33280, length=33536)
 REFUSED = {1: replace(G, z=1), 2: replace(G, n=65), 3: replace(G, boot=TOP - 256), 4: replace(G, swap=512)}
 
 
@@ -86,6 +87,25 @@ LONG = [
     progress("03 00 00 00 00 00 00", 38, THIRTEEN),
     progress("80 00 00 00 00 00 00", 39, THIRTEEN),
 ]
+def of_32(finished, *current):
+    """32 flag bytes: new ones, the current one, and so many finished ones behind it."""
+    return " ".join(["FF"] * (32 - len(current) - finished) + list(current) + ["00"] * finished)
+
+
+SIXTY_FOUR = [
+    progress(of_32(0), 0, LARGEST),
+    progress(of_32(0, "F7"), 1, LARGEST),
+    progress(of_32(15, "70"), 94, LARGEST),
+    progress(of_32(16), 96, LARGEST),
+    progress(of_32(31, "F7"), 187, LARGEST),
+    progress(of_32(31, "30"), 191, LARGEST),
+    progress(of_32(32), 192, LARGEST),
+    progress(of_32(31, "3F"), None, LARGEST),
+    progress(of_32(31, "F5"), None, LARGEST),
+    next_flag(of_32(31, "F0"), 189, "B 33243 112", LARGEST),
+    next_flag(of_32(31, "30"), 191, "B 33243 0", LARGEST),
+    next_flag(of_32(32), 192, "FINISHED", LARGEST),
+]
 # The six bytes of document 01's own exchange, and others: the other half stays, whatever it is.
 NEXT = [
     next_flag("FF", 0, "B 1530 247"),
@@ -123,4 +143,4 @@ REFUSALS = [case for number, where in REFUSED.items() for case in (
     Case(f"progress, geometry {number}", "P", f"REFUSE {number}", where, ((1530, b"\x3f"),)),
     Case(f"next flag, geometry {number}", "F", f"REFUSE {number}", where, ((1530, b"\xff"),)),
     Case(f"next flag past the last, geometry {number}", "F", f"REFUSE {number}", where, at=TOP - 1))]
-CASES = BENCH + PAIRS + ALONE + ODD + LONG + NEXT + REFUSALS
+CASES = BENCH + PAIRS + ALONE + ODD + LONG + SIXTY_FOUR + NEXT + REFUSALS

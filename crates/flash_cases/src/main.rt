@@ -105,7 +105,7 @@ fn answer_in(space: &mut [u8], head: &[u8], patches: &[u8]) {
 }
 
 fn answer_on_flash(head: &[u8], patches: &[u8]) {
-    let mut space = [0xFFu8; 8192];
+    let mut space = [0xFFu8; 65_536];
     answer_in(&mut space, head, patches);
 }
 

@@ -3,14 +3,20 @@
 use mathlib.Core.List.{List, [], _∷_, map, List·Memᴰ, List·Memᴰ·cases-cons, List·Memᴰ·not-nil}
 use mathlib.Core.Logic.{⊎-elim}
 use mathlib.Core.Path.{_≡_, refl}
+use Rattle.compare.specs.Compare.{all}
+use Rattle.flash.specs.Geometry.{placed, disjoint, geometryCheck}
 use Rattle.header.specs.Checks.{tagsCheck, headerCheck}
 use Rattle.header.specs.Lookup.{lookup}
 use Rattle.header.specs.Numbers.{numberAt}
 use Rattle.header.specs.Walk.{stepAt, walkIn, walk}
+use Rattle.slots.specs.Answers.{progressAnswer}
+use Rattle.slots.specs.Flags.{half, flagAt, flag, tab, flags, wellFormed, stage, progress, progressOf}
+use Rattle.slots.specs.Places.{offset, bytesAt}
 use Rattle.paper_cases.specs.Cases.{Case, cases, answerTo, Proved}
 
 answered : map (λ (c : Case). answerTo (c .input)) cases ≡ map (λ (c : Case). c .answer) cases
 unfolding numberAt stepAt walkIn walk lookup tagsCheck headerCheck
+    all placed disjoint geometryCheck offset bytesAt half flagAt flag tab flags wellFormed stage progress progressOf progressAnswer
 answered = refl
 
 -- where two maps of a list are equal, the functions are at each of its elements
