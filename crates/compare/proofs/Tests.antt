@@ -30,3 +30,13 @@ and-right false y e = never (sym e)
 pub or-cases : (x y : Bool) → (x || y) ≡ true → (x ≡ true) ⊎ (y ≡ true)
 or-cases true y e = inl refl
 or-cases false y e = inr e
+
+pub and-both : (x y : Bool) → x ≡ true → y ≡ true → (x && y) ≡ true
+and-both x y e d = rw (e, d)
+
+pub or-left : (x y : Bool) → x ≡ true → (x || y) ≡ true
+or-left x y e = rw e
+
+pub or-right : (x y : Bool) → y ≡ true → (x || y) ≡ true
+or-right true y e = refl
+or-right false y e = e

@@ -30,7 +30,7 @@ step-below a b z ea eb h =
     let n : (a / z + 1) * z ≡ a / z * z + 1 * z = add-mul (a / z) 1 z in
     omega (arith, one-mul z)
 
-within-is : (at start k : ℕ) → within at start k ≡ true → (start ≤ at) × (at < start + k)
+pub within-is : (at start k : ℕ) → within at start k ≡ true → (start ≤ at) × (at < start + k)
 within-is at start k e = (leb-true _ _ (and-left (leb start at) (ltb at (start + k)) e), ltb-true _ _ (and-right (leb start at) (ltb at (start + k)) e))
 
 module _ (g : Geometry) (len : ℕ) (v : Valid g len) where

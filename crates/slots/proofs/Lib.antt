@@ -4,3 +4,4 @@ pub mod Renewals
 pub mod Corresponding
 pub mod Apart
 pub mod Flagging
+pub mod Accepting

@@ -5,3 +5,4 @@ pub mod Answers
 pub mod Correspondence
 pub mod OnePlace
 pub mod FlagWritten
+pub mod Accepted
