@@ -12,6 +12,7 @@ import flash_geometries
 import flash_rules as rules
 import flash_steps
 import flash_trailers
+import stored
 from flash_case import digest
 
 CASES = flash_geometries.CASES + flash_steps.CASES + flash_trailers.CASES + flash_flags.CASES
@@ -71,22 +72,13 @@ def check(answers):
     for command, numbers in NUMBERS.items():
         seen = {number for case, (number, _) in zip(CASES, answers) if case.command == command}
         assert seen == {0} | numbers, (command, seen)
-    names = [case.name for case in CASES]
-    assert len(set(names)) == len(names), [name for name in names if names.count(name) > 1]
+    stored.check_names(CASES)
 
 
 def main():
     answers = [answer(case) for case in CASES]
     check(answers)
-    data = b"".join(map(record, CASES))
-    assert len(data) <= 262_144, len(data)
-    if sys.argv[1:] == ["stdin"]:
-        sys.stdout.buffer.write(data)
-    elif sys.argv[1:] == ["stdout"]:
-        for case, (_, text) in zip(CASES, answers):
-            print(f"{case.name}: {text}")
-    else:
-        sys.exit("usage: flash.py stdin | stdout")
+    stored.write(CASES, answers, record, 262_144)
 
 
 main()

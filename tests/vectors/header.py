@@ -11,6 +11,7 @@ import header_lookups
 import header_rules as rules
 import header_verdicts
 import header_writes
+import stored
 
 CASES = header_lookups.CASES + header_verdicts.CASES + header_writes.CASES
 NUMBERS = [10, 11, 12, 13, 14, 15, 16, 17, 18, 25, 26, 27]
@@ -56,22 +57,13 @@ def check(answers):
     for case, (_, text) in zip(CASES, answers):
         assert case.says is None or text == case.says, f"{case.name}: {text}, not {case.says}"
     assert {number for number, _ in answers} == {0, *NUMBERS}
-    names = [case.name for case in CASES]
-    assert len(set(names)) == len(names), [name for name in names if names.count(name) > 1]
+    stored.check_names(CASES)
 
 
 def main():
     answers = [answer(case) for case in CASES]
     check(answers)
-    data = b"".join(map(record, CASES))
-    assert len(data) <= 64000, len(data)
-    if sys.argv[1:] == ["stdin"]:
-        sys.stdout.buffer.write(data)
-    elif sys.argv[1:] == ["stdout"]:
-        for case, (_, text) in zip(CASES, answers):
-            print(f"{case.name}: {text}")
-    else:
-        sys.exit("usage: header.py stdin | stdout")
+    stored.write(CASES, answers, record, 64_000)
 
 
 main()
