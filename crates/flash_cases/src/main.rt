@@ -15,7 +15,7 @@ use record::least;
 use records::byte_at;
 use records::part;
 use slots::Progress;
-use slots::Renewal;
+use slots::Work;
 
 // G: whether the geometry is accepted.
 fn check_geometry(g: Geometry, len: usize) {
@@ -47,13 +47,13 @@ fn apply_op(flash: &mut [u8], g: Geometry, head: &[u8]) {
 }
 
 // R, F: the step that is due.
-fn renewal(r: Renewal) {
-    match r {
-        Renewal::Due(step) => show::step(step),
-        Renewal::Finished => {
+fn due(w: Work) {
+    match w {
+        Work::Due(step) => show::step(step),
+        Work::Finished => {
             io::write_all(STDOUT_FILENO, b"FINISHED\n");
         }
-        Renewal::Refused(number) => show::refusal(number),
+        Work::Refused(number) => show::refusal(number),
     }
 }
 
@@ -87,9 +87,9 @@ fn answer(flash: &mut [u8], head: &[u8]) {
     let value = record::value(head);
     match byte_at(head, 0) {
         b'S' => apply_op(flash, g, head),
-        b'R' => renewal(slots::renewal(flash, g, slot, value)),
+        b'R' => due(slots::renewal(flash, g, slot, value)),
         b'P' => progress(slots::progress(flash, g)),
-        b'F' => renewal(slots::next_flag(flash, g, record::at(head))),
+        b'F' => due(slots::next_flag(flash, g, record::at(head))),
         b'T' => sound(slots::is_sound_with(flash, g, slot, value)),
         b'I' => image(slots::image(flash, g, slot)),
         _ => {}

@@ -25,7 +25,7 @@ use Rattle.slots.specs.FlagWritten.{Flagged, FlagWritten, NextFlag}
 use Rattle.slots.specs.Flags.{half, withHalf, flagAt, flag, flags, nextFlag, flagStep, nextFlagOf}
 use Rattle.slots.specs.Places.{offset, trailerOf}
 use Rattle.slots.specs.Trailers.{state}
-use Rattle.slots.specs.declared.answers.Renewal.the-variants.{Due, Finished}
+use Rattle.slots.specs.declared.answers.Work.the-variants.{Due, Finished}
 use Rattle.slots.specs.declared.places.Place.the-variants.{Sector}
 use Rattle.slots.specs.declared.places.Slot.the-variants.{Update}
 use Rattle.slots.proofs.Apart.{length-at, sectors}

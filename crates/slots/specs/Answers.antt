@@ -11,8 +11,8 @@ use Rattle.slots.specs.Places.{trailerOf, imageOf}
 use Rattle.slots.specs.Trailers.{soundWith, renewalOf}
 use Rattle.slots.specs.declared.answers.Progress.{Progress}
 use Rattle.slots.specs.declared.answers.Progress.the-variants as P
-use Rattle.slots.specs.declared.answers.Renewal.{Renewal}
-use Rattle.slots.specs.declared.answers.Renewal.the-variants as R
+use Rattle.slots.specs.declared.answers.Work.{Work}
+use Rattle.slots.specs.declared.answers.Work.the-variants as R
 use Rattle.slots.specs.declared.places.Slot.{Slot}
 use Rattle.slots.specs.declared.places.Slot.the-variants.{Update}
 
@@ -28,11 +28,11 @@ imageAnswer g f s = cond (accepts g f) (imageOf g f s) []
 unfoldable pub soundAnswer : Geometry → List ℕ → Slot → ℕ → Bool
 soundAnswer g f s v = accepts g f && soundWith (trailerOf g f s) v
 
-unfoldable pub renewalAnswer : Geometry → List ℕ → Slot → ℕ → Renewal
+unfoldable pub renewalAnswer : Geometry → List ℕ → Slot → ℕ → Work
 renewalAnswer g f s v = cond (accepts g f) (renewalOf g f s v) (R.Refused (number g f))
 
 unfoldable pub progressAnswer : Geometry → List ℕ → Progress
 progressAnswer g f = cond (accepts g f) (progressOf (flags (g .count) (trailerOf g f Update))) (P.Refused (number g f))
 
-unfoldable pub nextFlagAnswer : Geometry → List ℕ → ℕ → Renewal
+unfoldable pub nextFlagAnswer : Geometry → List ℕ → ℕ → Work
 nextFlagAnswer g f p = cond (accepts g f) (nextFlagOf g f p) (R.Refused (number g f))

@@ -6,16 +6,16 @@ use mathlib.Core.Path.{_≡_}
 use lib.Dec.{eqb, ltb}
 use lib.ListN.{length, getD, replicate}
 use Rattle.compare.specs.Compare.{all}
-use Rattle.slots.specs.Flags.{wellFormed, progress, finishedIn}
+use Rattle.slots.specs.Flags.{new, swapping, backup, updated, wellFormed, progress, finishedIn}
 
--- the current sector's flag: new, swapping, backup
+-- the current sector's flag
 unfoldable pub flagFor : ℕ → ℕ
-flagFor s = cond (eqb s 0) 15 (cond (eqb s 1) 7 3)
+flagFor s = cond (eqb s 0) new (cond (eqb s 1) swapping backup)
 
 -- the flags of n sectors that a progress stands for
 unfoldable pub flagsFor : ℕ → ℕ → List ℕ
 flagsFor zero p = []
-flagsFor (suc n) p = cond (ltb p 3) (flagFor p ∷ replicate n 15) (0 ∷ flagsFor n (p - 3))
+flagsFor (suc n) p = cond (ltb p 3) (flagFor p ∷ replicate n new) (updated ∷ flagsFor n (p - 3))
 
 pub record Flags (n p : ℕ) (fs : List ℕ) : Type 0 where
   pub count : length fs ≡ n
@@ -26,8 +26,8 @@ pub record Flags (n p : ℕ) (fs : List ℕ) : Type 0 where
 pub record Says (n p : ℕ) (fs : List ℕ) : Type 0 where
   pub bound : p ≤ 3 * n
   pub only : fs ≡ flagsFor n p
-  pub all-new : all 15 fs ≡ eqb p 0
-  pub all-updated : all 0 fs ≡ eqb p (3 * n)
+  pub all-new : all new fs ≡ eqb p 0
+  pub all-updated : all updated fs ≡ eqb p (3 * n)
   pub current : p < 3 * n → (finishedIn fs ≡ p / 3) × (getD fs (p / 3) 0 ≡ flagFor (p % 3))
 
 pub record OneToOne (n : ℕ) : Type 0 where

@@ -15,7 +15,7 @@ use Rattle.slots.specs.Correspondence.{Flags}
 use Rattle.slots.specs.Flags.{flag, flags, nextFlag, nextFlagOf}
 use Rattle.slots.specs.Places.{trailerOf}
 use Rattle.slots.specs.Trailers.{state}
-use Rattle.slots.specs.declared.answers.Renewal.the-variants.{Due}
+use Rattle.slots.specs.declared.answers.Work.the-variants.{Due}
 use Rattle.slots.specs.declared.places.Slot.the-variants.{Update}
 
 -- trailer t′ is t with sector i's flag written as v; other: also the half that an odd n leaves over

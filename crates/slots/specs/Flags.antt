@@ -12,10 +12,23 @@ use Rattle.flash.specs.declared.steps.Step.the-variants.{Byte}
 use Rattle.slots.specs.Places.{offset, trailerOf}
 use Rattle.slots.specs.declared.answers.Progress.{Progress}
 use Rattle.slots.specs.declared.answers.Progress.the-variants.{At, Refused}
-use Rattle.slots.specs.declared.answers.Renewal.{Renewal}
-use Rattle.slots.specs.declared.answers.Renewal.the-variants.{Due, Finished}
+use Rattle.slots.specs.declared.answers.Work.{Work}
+use Rattle.slots.specs.declared.answers.Work.the-variants.{Due, Finished}
 use Rattle.slots.specs.declared.places.Place.the-variants.{Sector}
 use Rattle.slots.specs.declared.places.Slot.the-variants.{Update}
+
+-- a flag's values in our build
+abbrev pub new : ℕ
+new = 0xF
+
+abbrev pub swapping : ℕ
+swapping = 0x7
+
+abbrev pub backup : ℕ
+backup = 0x3
+
+abbrev pub updated : ℕ
+updated = 0x0
 
 -- two per byte, the even sector in the low half
 unfoldable pub half : ℕ → ℕ → ℕ
@@ -44,22 +57,22 @@ flags n t = tab n (flag t)
 -- some 0s, then at most one 7 or 3, then F only
 unfoldable pub wellFormed : List ℕ → Bool
 wellFormed [] = true
-wellFormed (x ∷ xs) = cond (eqb x 0) (wellFormed xs) ((eqb x 7 || eqb x 3 || eqb x 15) && all 15 xs)
+wellFormed (x ∷ xs) = cond (eqb x updated) (wellFormed xs) ((eqb x swapping || eqb x backup || eqb x new) && all new xs)
 
 -- the progress: three for each finished sector, and in the current one 1 for swapping, 2 for backup
 unfoldable pub stage : ℕ → ℕ
-stage v = cond (eqb v 7) 1 (cond (eqb v 3) 2 0)
+stage v = cond (eqb v swapping) 1 (cond (eqb v backup) 2 0)
 
 unfoldable pub progress : List ℕ → ℕ
 progress [] = 0
-progress (x ∷ xs) = cond (eqb x 0) (3 + progress xs) (stage x)
+progress (x ∷ xs) = cond (eqb x updated) (3 + progress xs) (stage x)
 
 unfoldable pub progressOf : List ℕ → Progress
 progressOf fs = cond (wellFormed fs) (At (progress fs)) (Refused 20)
 
 -- the flag that follows a progress in its sector
 unfoldable pub nextFlag : ℕ → ℕ
-nextFlag p = cond (eqb (p % 3) 0) 7 (cond (eqb (p % 3) 1) 3 0)
+nextFlag p = cond (eqb (p % 3) 0) swapping (cond (eqb (p % 3) 1) backup updated)
 
 -- the step that writes it in the trailer t at an offset, the other half of the byte as it is
 unfoldable pub flagStep : ℕ → List ℕ → ℕ → Step
@@ -68,7 +81,7 @@ flagStep at t p =
     Byte (at + k) (withHalf (p / 3) (nextFlag p) (getD t k 0))
 
 -- none is due where all sectors are finished
-unfoldable pub nextFlagOf : Geometry → List ℕ → ℕ → Renewal
+unfoldable pub nextFlagOf : Geometry → List ℕ → ℕ → Work
 nextFlagOf g f p =
     cond (ltb p (3 * g .count)) (Due (flagStep (offset g (Sector Update (g .count))) (trailerOf g f Update) p)) Finished
 
@@ -80,4 +93,4 @@ pub record FlagPlace (len i at : ℕ) : Type 0 where
 
 unfoldable pub finishedIn : List ℕ → ℕ
 finishedIn [] = 0
-finishedIn (x ∷ xs) = cond (eqb x 0) (suc (finishedIn xs)) 0
+finishedIn (x ∷ xs) = cond (eqb x updated) (suc (finishedIn xs)) 0

@@ -8,10 +8,10 @@ use Rattle.compare.specs.Compare.{all}
 use Rattle.flash.specs.Cuts.{sound}
 use Rattle.flash.specs.declared.geometry.Geometry.{Geometry}
 use Rattle.flash.specs.declared.steps.Step.the-variants.{Erase, Byte, Mark}
-use Rattle.slots.specs.Flags.{flags}
+use Rattle.slots.specs.Flags.{new, flags}
 use Rattle.slots.specs.Places.{offset, trailerOf}
-use Rattle.slots.specs.declared.answers.Renewal.{Renewal}
-use Rattle.slots.specs.declared.answers.Renewal.the-variants.{Due, Finished}
+use Rattle.slots.specs.declared.answers.Work.{Work}
+use Rattle.slots.specs.declared.answers.Work.the-variants.{Due, Finished}
 use Rattle.slots.specs.declared.places.Place.the-variants.{Sector}
 use Rattle.slots.specs.declared.places.Slot.{Slot}
 use Rattle.slots.specs.declared.places.Slot.the-variants.{Boot, Update}
@@ -31,19 +31,19 @@ flagCount g Boot = 0
 flagCount g Update = g .count
 
 unfoldable pub renewedTo : List ℕ → ℕ → ℕ → Bool
-renewedTo t n v = soundWith t v && all 15 (flags n t)
+renewedTo t n v = soundWith t v && all new (flags n t)
 
 -- all FF except the state byte, which is v
 unfoldable pub allButState : List ℕ → ℕ → Bool
 allButState t v = all 0xFF (take (length t - 5) t) && eqb (state t) v && all 0xFF (drop (length t - 4) t)
 
 -- t is the trailer at an offset, with n flags
-unfoldable pub renew : ℕ → List ℕ → ℕ → ℕ → Renewal
+unfoldable pub renew : ℕ → List ℕ → ℕ → ℕ → Work
 renew at t n v =
     cond (renewedTo t n v) Finished (Due
     (cond (all 0xFF t) (Byte (at + length t - 5) v)
     (cond (allButState t v) (Mark (at + length t - 4))
     (Erase at))))
 
-abbrev pub renewalOf : Geometry → List ℕ → Slot → ℕ → Renewal
+abbrev pub renewalOf : Geometry → List ℕ → Slot → ℕ → Work
 renewalOf g f s v = renew (offset g (Sector s (g .count))) (trailerOf g f s) (flagCount g s) v

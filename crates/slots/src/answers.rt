@@ -8,7 +8,7 @@ pub enum Progress {
 }
 
 // The step that is due, or nothing more to do.
-pub enum Renewal {
+pub enum Work {
     Due(Step),
     Finished,
     Refused(u32),

@@ -1,5 +1,5 @@
-// Document 01, "Trailers and flags": the sector flags in UPDATE's trailer t, and how far the exchange
-// has come.
+// Document 01, "Trailers and flags": the sector flags in UPDATE's trailer t (F new, 7 swapping, 3 backup,
+// 0 updated), and how far the exchange has come.
 ghost use mathlib.Core.Path.{_≡_};
 ghost use Prim.Native.Nat.{_+_, _^_, _≤_, _<_};
 ghost use lib.ListN.{length, drop};
@@ -7,7 +7,7 @@ ghost use Rattle.compare.specs.Compare.{all};
 ghost use Rattle.flash.specs.Valid.{Valid};
 ghost use Rattle.slots.specs.Flags.{half, withHalf, FlagPlace, flag, flags, nextFlag, finishedIn, progressOf, flagStep, nextFlagOf};
 use crate::answers::Progress;
-use crate::answers::Renewal;
+use crate::answers::Work;
 use crate::places::Place;
 use crate::places::Slot;
 use crate::places::offset;
@@ -90,9 +90,9 @@ pub(crate) fn progress(t: &[u8], n: usize) -> Progress
         return Progress::At(3 * n);
     }
     let v = flag(t, i);
-    if is_rest(t, n, i + 1, 15) {
+    if is_rest(t, n, i + 1, 0xF) {
         match v {
-            15 => return Progress::At(3 * i),
+            0xF => return Progress::At(3 * i),
             7 => return Progress::At(3 * i + 1),
             3 => return Progress::At(3 * i + 2),
             _ => return Progress::Refused(20),
@@ -123,14 +123,14 @@ fn flag_step(t: &[u8], at: usize, reached: usize) -> Step
     Step::Byte(at + k, with_half(i, flag_after(reached), t[k]))
 }
 
-pub(crate) fn next_flag(flash: &[u8], g: Geometry, reached: usize) -> Renewal
+pub(crate) fn next_flag(flash: &[u8], g: Geometry, reached: usize) -> Work
     requires { ⌜ Valid g (length (now flash)) ⌝ }
     ensures { λ r. ⌜ r ≡ nextFlagOf g (now (flash .entry)) reached ⌝ }
 {
     if 3 * g.count <= reached {
-        return Renewal::Finished;
+        return Work::Finished;
     }
     let t = trailer(flash, g, Slot::Update);
     let at = offset(g, Place::Sector(Slot::Update, g.count));
-    Renewal::Due(flag_step(t, at, reached))
+    Work::Due(flag_step(t, at, reached))
 }

@@ -8,7 +8,7 @@ mod trailers;
 ghost use mathlib.Core.Path.{_≡_};
 ghost use Rattle.slots.specs.Answers.{imageAnswer, soundAnswer, renewalAnswer, progressAnswer, nextFlagAnswer};
 pub use answers::Progress;
-pub use answers::Renewal;
+pub use answers::Work;
 use flash::Geometry;
 use flash::check_geometry;
 pub use places::Place;
@@ -35,12 +35,12 @@ pub fn is_sound_with(flash: &[u8], g: Geometry, slot: Slot, state: u8) -> bool
 }
 
 // The next step that renews a slot's trailer to a state.
-pub fn renewal(flash: &[u8], g: Geometry, slot: Slot, state: u8) -> Renewal
+pub fn renewal(flash: &[u8], g: Geometry, slot: Slot, state: u8) -> Work
     ensures { λ r. ⌜ r ≡ renewalAnswer g (now (flash .entry)) slot state ⌝ }
 {
     let number = check_geometry(g, flash.len());
     if number != 0 {
-        return Renewal::Refused(number);
+        return Work::Refused(number);
     }
     trailers::renewal(flash, g, slot, state)
 }
@@ -58,12 +58,12 @@ pub fn progress(flash: &[u8], g: Geometry) -> Progress
 }
 
 // The step that writes the flag after a progress, or finished where all flags are 0.
-pub fn next_flag(flash: &[u8], g: Geometry, reached: usize) -> Renewal
+pub fn next_flag(flash: &[u8], g: Geometry, reached: usize) -> Work
     ensures { λ r. ⌜ r ≡ nextFlagAnswer g (now (flash .entry)) reached ⌝ }
 {
     let number = check_geometry(g, flash.len());
     if number != 0 {
-        return Renewal::Refused(number);
+        return Work::Refused(number);
     }
     flags::next_flag(flash, g, reached)
 }

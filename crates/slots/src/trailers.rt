@@ -4,7 +4,7 @@ ghost use Prim.Native.Nat.{_+_, _^_, _≤_, _<_};
 ghost use lib.ListN.{length};
 ghost use Rattle.flash.specs.Valid.{Valid};
 ghost use Rattle.slots.specs.Trailers.{soundWith, allButState, flagCount, renewedTo, renew, renewalOf};
-use crate::answers::Renewal;
+use crate::answers::Work;
 use crate::flags::is_rest;
 use crate::places::Place;
 use crate::places::Slot;
@@ -47,27 +47,27 @@ fn is_renewed(t: &[u8], flags: usize, state: u8) -> bool
     requires { ⌜ (256 ≤ length (now t)) × (flags ≤ 64) ⌝ }
     ensures { λ r. ⌜ r ≡ renewedTo (now (t .entry)) flags state ⌝ }
 {
-    is_sound_with(t, state) & is_rest(t, flags, 0, 15)
+    is_sound_with(t, state) & is_rest(t, flags, 0, 0xF)
 }
 
 // The step that renews the trailer t at an offset, with as many flags.
-fn renew(t: &[u8], at: usize, flags: usize, state: u8) -> Renewal
+fn renew(t: &[u8], at: usize, flags: usize, state: u8) -> Work
     requires { ⌜ (256 ≤ length (now t)) × (flags ≤ 64) × (at + length (now t) < 2 ^ 64) ⌝ }
     ensures { λ r. ⌜ r ≡ renew at (now (t .entry)) flags state ⌝ }
 {
     if is_renewed(t, flags, state) {
-        return Renewal::Finished;
+        return Work::Finished;
     }
     if all(0xFF, t) {
-        return Renewal::Due(Step::Byte(at + t.len() - 5, state));
+        return Work::Due(Step::Byte(at + t.len() - 5, state));
     }
     if is_all_but_state(t, state) {
-        return Renewal::Due(Step::Mark(at + t.len() - 4));
+        return Work::Due(Step::Mark(at + t.len() - 4));
     }
-    Renewal::Due(Step::Erase(at))
+    Work::Due(Step::Erase(at))
 }
 
-pub(crate) fn renewal(flash: &[u8], g: Geometry, slot: Slot, state: u8) -> Renewal
+pub(crate) fn renewal(flash: &[u8], g: Geometry, slot: Slot, state: u8) -> Work
     requires { ⌜ Valid g (length (now flash)) ⌝ }
     ensures { λ r. ⌜ r ≡ renewalOf g (now (flash .entry)) slot state ⌝ }
 {
