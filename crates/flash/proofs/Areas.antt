@@ -1,7 +1,7 @@
 -- Laws of the geometry: what its check's answer 0 says. Assumes nothing.
 use Prim.Native.Nat.{ℕ, _+_, _-_, _%_, _≤_}
 use mathlib.Core.Bool.{Bool, true, false, _&&_, _||_}
-use mathlib.Core.Logic.{_⊎_, inl, inr}
+use mathlib.Core.Logic.{inl, inr, ⊎-elim}
 use mathlib.Core.Path.{_≡_, refl, sym, _∙_}
 use native.Mathlib.Decide.{decLe}
 use native.Mathlib.Nat.{le-trans, mul-le-mul-left, mul-le-mul-right}
@@ -15,26 +15,14 @@ use Rattle.flash.specs.declared.geometry.Geometry.{Geometry}
 
 -- what holds of each listed size holds of a size that is listed
 pub by-listed : (P : ℕ → Type 0) → P 256 → P 512 → P 1024 → P 2048 → P 4096 → (z : ℕ) → listed z ≡ true → P z
-by-listed P a b c d e z h = five (or-cases _ _ h)
+by-listed P a b c d e z h =
+    ⊎-elim (λ x. ⊎-elim (λ y. ⊎-elim (λ u. ⊎-elim (is 256 a) (is 512 b) (or-cases (eqb z 256) (eqb z 512) u)) (is 1024 c)
+    (or-cases (eqb z 256 || eqb z 512) (eqb z 1024) y)) (is 2048 d)
+    (or-cases (eqb z 256 || eqb z 512 || eqb z 1024) (eqb z 2048) x)) (is 4096 e)
+    (or-cases (eqb z 256 || eqb z 512 || eqb z 1024 || eqb z 2048) (eqb z 4096) h)
   where
     is : (k : ℕ) → P k → eqb z k ≡ true → P z
     is k p q = rw (eqb-true z k q) p
-
-    two : (eqb z 256 ≡ true) ⊎ (eqb z 512 ≡ true) → P z
-    two (inl q) = is 256 a q
-    two (inr q) = is 512 b q
-
-    three : ((eqb z 256 || eqb z 512) ≡ true) ⊎ (eqb z 1024 ≡ true) → P z
-    three (inl q) = two (or-cases _ _ q)
-    three (inr q) = is 1024 c q
-
-    four : ((eqb z 256 || eqb z 512 || eqb z 1024) ≡ true) ⊎ (eqb z 2048 ≡ true) → P z
-    four (inl q) = three (or-cases _ _ q)
-    four (inr q) = is 2048 d q
-
-    five : ((eqb z 256 || eqb z 512 || eqb z 1024 || eqb z 2048) ≡ true) ⊎ (eqb z 4096 ≡ true) → P z
-    five (inl q) = four (or-cases _ _ q)
-    five (inr q) = is 4096 e q
 
 abbrev Size : ℕ → Type 0
 Size z = (256 ≤ z) × (z ≤ 4096) × (z % 256 ≡ 0)
@@ -95,11 +83,7 @@ placed-in g len e =
     }
 
 apart-is : (a k b m : ℕ) → apart a k b m ≡ true → Apart a k b m
-apart-is a k b m e = go (or-cases _ _ e)
-  where
-    go : (leb (a + k) b ≡ true) ⊎ (leb (b + m) a ≡ true) → Apart a k b m
-    go (inl h) = inl (leb-true _ _ h)
-    go (inr h) = inr (leb-true _ _ h)
+apart-is a k b m e = ⊎-elim (λ h. inl (leb-true _ _ h)) (λ h. inr (leb-true _ _ h)) (or-cases (leb (a + k) b) (leb (b + m) a) e)
 
 -- the number that a geometry is refused with, by the first test that fails
 module _ (g : Geometry) (len : ℕ) where

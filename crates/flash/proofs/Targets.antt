@@ -2,7 +2,7 @@
 use Prim.Native.Nat.{ℕ, _+_, _-_, _*_, _/_, _%_, _≤_, _<_}
 use mathlib.Core.Bool.{Bool, true, false, not, _&&_, _||_}
 use mathlib.Core.List.{List}
-use mathlib.Core.Logic.{_⊎_, inl, inr, _≢_}
+use mathlib.Core.Logic.{inl, inr, ⊎-elim, _≢_}
 use mathlib.Core.Path.{_≡_, refl, sym, _∙_}
 use native.Mathlib.Decide.{decLt}
 use native.Mathlib.Nat.{add-mul-mod-self-right, div-add-mod', lt-of-mul-lt-mul-right, mul-le-mul-right, add-mul, one-mul}
@@ -33,6 +33,25 @@ step-below a b z ea eb h =
 pub within-is : (at start k : ℕ) → within at start k ≡ true → (start ≤ at) × (at < start + k)
 within-is at start k e = (leb-true _ _ (and-left (leb start at) (ltb at (start + k)) e), ltb-true _ _ (and-right (leb start at) (ltb at (start + k)) e))
 
+-- a sector's start is aligned, and lies in one of the three areas
+module _ (g : Geometry) (at : ℕ) (e : sectorStart g at ≡ true) where
+  abbrev a : Bool
+  a = within at (g .boot) (slotSize g)
+
+  abbrev b : Bool
+  b = within at (g .update) (slotSize g)
+
+  abbrev c : Bool
+  c = within at (g .swap) (g .size)
+
+  pub start-on : at % g .size ≡ 0
+  unfolding sectorStart
+  start-on = eqb-true (at % g .size) 0 (and-left (aligned at (g .size)) (a || b || c) e)
+
+  pub by-area : {P : Type 0} → (a ≡ true → P) → (b ≡ true → P) → (c ≡ true → P) → P
+  unfolding sectorStart
+  by-area f h k = ⊎-elim (λ w. ⊎-elim f h (or-cases a b w)) k (or-cases (a || b) c (and-right (aligned at (g .size)) (a || b || c) e))
+
 module _ (g : Geometry) (len : ℕ) (v : Valid g len) where
   abbrev z : ℕ
   z = g .size
@@ -53,55 +72,30 @@ module _ (g : Geometry) (len : ℕ) (v : Valid g len) where
   swap-end : (g .swap + z) % z ≡ 0
   swap-end = rw (one-mul z) at (add-mul-mod-self-right (g .swap) 1 z) ∙ v .swap-on
 
-  start-on : (at : ℕ) → sectorStart g at ≡ true → at % z ≡ 0
-  unfolding sectorStart
-  start-on at e = eqb-true (at % z) 0 (and-left (aligned at z) _ e)
-
   start-inside : (at : ℕ) → sectorStart g at ≡ true → InAreas g at z
-  unfolding sectorStart
-  start-inside at e = one (or-cases (a || b) c (and-right (aligned at z) (a || b || c) e))
-    where
-      a : Bool
-      a = within at (g .boot) (slotSize g)
-
-      b : Bool
-      b = within at (g .update) (slotSize g)
-
-      c : Bool
-      c = within at (g .swap) z
-
-      on : at % z ≡ 0
-      on = start-on at e
-
-      slot : (a ≡ true) ⊎ (b ≡ true) → InAreas g at z
-      slot (inl w) = inl (in-area at (g .boot) (slotSize g) on (v .boot-on) (slot-end (g .boot) (v .boot-on)) w)
-      slot (inr w) = inr (inl (in-area at (g .update) (slotSize g) on (v .update-on) (slot-end (g .update) (v .update-on)) w))
-
-      one : ((a || b) ≡ true) ⊎ (c ≡ true) → InAreas g at z
-      one (inl w) = slot (or-cases a b w)
-      one (inr w) = inr (inr (in-area at (g .swap) z on (v .swap-on) swap-end w))
+  start-inside at e =
+      let on = start-on g at e in
+      by-area g at e (λ w. inl (in-area at (g .boot) (slotSize g) on (v .boot-on) (slot-end (g .boot) (v .boot-on)) w))
+      (λ w. inr (inl (in-area at (g .update) (slotSize g) on (v .update-on) (slot-end (g .update) (v .update-on)) w)))
+      (λ w. inr (inr (in-area at (g .swap) z on (v .swap-on) swap-end w)))
 
   trailer-inside : (at : ℕ) → trailerByte g at ≡ true → InAreas g at 1
   unfolding trailerByte
-  trailer-inside at e = go (or-cases (within at (g .boot + imageSize g) z) (within at (g .update + imageSize g) z) e)
+  trailer-inside at e =
+      ⊎-elim (λ w. inl (there (g .boot) w)) (λ w. inr (inl (there (g .update) w)))
+      (or-cases (within at (g .boot + imageSize g) z) (within at (g .update + imageSize g) z) e)
     where
       there : (start : ℕ) → within at (start + imageSize g) z ≡ true → Lies at 1 start (slotSize g)
       there start w = let h = within-is at (start + imageSize g) z w in (omega arith, omega arith)
 
-      go : (within at (g .boot + imageSize g) z ≡ true) ⊎ (within at (g .update + imageSize g) z ≡ true) → InAreas g at 1
-      go (inl w) = inl (there (g .boot) w)
-      go (inr w) = inr (inl (there (g .update) w))
-
   mark-inside : (at : ℕ) → markPlace g at ≡ true → InAreas g at 4
   unfolding markPlace
-  mark-inside at e = go (or-cases (eqb at (g .boot + slotSize g - 4)) (eqb at (g .update + slotSize g - 4)) e)
+  mark-inside at e =
+      ⊎-elim (λ w. inl (there (g .boot) w)) (λ w. inr (inl (there (g .update) w)))
+      (or-cases (eqb at (g .boot + slotSize g - 4)) (eqb at (g .update + slotSize g - 4)) e)
     where
       there : (start : ℕ) → eqb at (start + slotSize g - 4) ≡ true → Lies at 4 start (slotSize g)
       there start w = let h = eqb-true at (start + slotSize g - 4) w in (omega (arith, v .shape .size-min), omega (arith, v .shape .size-min))
-
-      go : (eqb at (g .boot + slotSize g - 4) ≡ true) ⊎ (eqb at (g .update + slotSize g - 4) ≡ true) → InAreas g at 4
-      go (inl w) = inl (there (g .boot) w)
-      go (inr w) = inr (inl (there (g .update) w))
 
   -- a copy's two sectors
   pub record Copied (from to : ℕ) : Type 0 where
@@ -122,7 +116,7 @@ module _ (g : Geometry) (len : ℕ) (v : Valid g len) where
       let a = and-left (sectorStart g from) (sectorStart g to) both in
       let b = and-right (sectorStart g from) (sectorStart g to) both in
       let n = and-right (sectorStart g from && sectorStart g to) (not (eqb from to)) e in
-      record { from-start = a; to-start = b; two = apart-starts from to (start-on from a) (start-on to b) (differ n) }
+      record { from-start = a; to-start = b; two = apart-starts from to (start-on g from a) (start-on g to b) (differ n) }
     where
       differ : not (eqb from to) ≡ true → from ≢ to
       differ n q = never (sym (rw (eq-eqb from to q) at n))

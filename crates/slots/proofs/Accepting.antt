@@ -1,7 +1,7 @@
 -- The steps that are accepted are exactly those at the sectors of the geometry. Assumes nothing.
 use Prim.Native.Nat.{ℕ, _+_, _-_, _*_, _/_, _%_, _≤_, _<_}
-use mathlib.Core.Bool.{Bool, true, not, _&&_, _||_}
-use mathlib.Core.Logic.{_⊎_, inl, inr, _≢_}
+use mathlib.Core.Bool.{true, not, _&&_, _||_}
+use mathlib.Core.Logic.{⊎-elim, _≢_}
 use mathlib.Core.Path.{_≡_, refl, ap, _∙_}
 use native.Mathlib.Decide.{decLt}
 use native.Mathlib.Nat.{add-mul, one-mul, div-add-mod', mul-le-mul-right, lt-of-mul-lt-mul-right, add-mul-mod-self-right}
@@ -15,7 +15,7 @@ use Rattle.flash.specs.declared.geometry.Geometry.{Geometry}
 use Rattle.flash.specs.declared.steps.Step.the-variants.{Copy, Byte, Mark}
 use Rattle.compare.proofs.Tests.{and-left, and-right, and-both, or-cases, or-left, or-right}
 use Rattle.flash.proofs.Areas.{valid}
-use Rattle.flash.proofs.Targets.{within-is}
+use Rattle.flash.proofs.Targets.{within-is, start-on, by-area}
 use Rattle.slots.specs.Accepted.{Starts, IntoTrailer, Accepted, AtPlaces}
 use Rattle.slots.specs.Places.{start, offset, Within}
 use Rattle.slots.specs.declared.places.Place.{Place}
@@ -55,9 +55,9 @@ module _ (g : Geometry) (len : ℕ) (v : Valid g len) where
   pos : 0 < z
   pos = omega (arith, v .shape .size-min)
 
-  start-on : (s : Slot) → start g s % z ≡ 0
-  start-on Boot = v .boot-on
-  start-on Update = v .update-on
+  slot-on : (s : Slot) → start g s % z ≡ 0
+  slot-on Boot = v .boot-on
+  slot-on Update = v .update-on
 
   -- ---- sectors
 
@@ -65,7 +65,7 @@ module _ (g : Geometry) (len : ℕ) (v : Valid g len) where
   unfolding offset
   in-slot s at e w =
       let b = within-is at (start g s) (slotSize g) w in
-      let i = sectors-on at (start g s) z pos e (start-on s) (b .0) in
+      let i = sectors-on at (start g s) z pos e (slot-on s) (b .0) in
       let l : i .0 * z < (g .count + 1) * z = omega (arith, add-mul (g .count) 1 z, one-mul z, i .1, b .1) in
       let m : i .0 < g .count + 1 = lt-of-mul-lt-mul-right z l in
       (Sector s (i .0), (omega arith, i .1))
@@ -81,33 +81,14 @@ module _ (g : Geometry) (len : ℕ) (v : Valid g len) where
       (Swap, (tt, omega (arith, i .1)))
 
   erase-only : (at : ℕ) → sectorStart g at ≡ true → Starts g at
-  unfolding sectorStart
-  erase-only at e = one (or-cases (a || b) c (and-right (aligned at z) (a || b || c) e))
-    where
-      a : Bool
-      a = within at (g .boot) (slotSize g)
-
-      b : Bool
-      b = within at (g .update) (slotSize g)
-
-      c : Bool
-      c = within at (g .swap) z
-
-      on : at % z ≡ 0
-      on = eqb-true (at % z) 0 (and-left (aligned at z) (a || b || c) e)
-
-      two : (a ≡ true) ⊎ (b ≡ true) → Starts g at
-      two (inl w) = in-slot Boot at on w
-      two (inr w) = in-slot Update at on w
-
-      one : ((a || b) ≡ true) ⊎ (c ≡ true) → Starts g at
-      one (inl w) = two (or-cases a b w)
-      one (inr w) = in-swap at on w
+  erase-only at e =
+      let on = start-on g at e in
+      by-area g at e (in-slot Boot at on) (in-slot Update at on) (in-swap at on)
 
   started : (p : Place) → Within g p → sectorStart g (offset g p) ≡ true
   unfolding sectorStart offset
   started (Sector s i) h = and-both (aligned o z) (within o (g .boot) (slotSize g) || within o (g .update) (slotSize g) || within o (g .swap) z)
-      (eq-eqb (o % z) 0 (add-mul-mod-self-right (start g s) i z ∙ start-on s))
+      (eq-eqb (o % z) 0 (add-mul-mod-self-right (start g s) i z ∙ slot-on s))
       (or-left (within o (g .boot) (slotSize g) || within o (g .update) (slotSize g)) (within o (g .swap) z) (slot s here))
     where
       o : ℕ
@@ -161,11 +142,8 @@ module _ (g : Geometry) (len : ℕ) (v : Valid g len) where
 
   byte-only : (at x : ℕ) → accepted g (Byte at x) ≡ true → (k : ℕ) × ((k < z) × IntoTrailer g k at)
   unfolding trailerByte
-  byte-only at x e = go (or-cases (within at (g .boot + imageSize g) z) (within at (g .update + imageSize g) z) e)
-    where
-      go : (within at (g .boot + imageSize g) z ≡ true) ⊎ (within at (g .update + imageSize g) z ≡ true) → (k : ℕ) × ((k < z) × IntoTrailer g k at)
-      go (inl w) = into Boot at w
-      go (inr w) = into Update at w
+  byte-only at x e =
+      ⊎-elim (into Boot at) (into Update at) (or-cases (within at (g .boot + imageSize g) z) (within at (g .update + imageSize g) z) e)
 
   -- four bytes before a slot's end
   marked : (s : Slot) (at : ℕ) → at ≡ offset g (Sector s (g .count)) + (z - 4) → at ≡ start g s + slotSize g - 4
@@ -181,14 +159,11 @@ module _ (g : Geometry) (len : ℕ) (v : Valid g len) where
 
   mark-only : (at : ℕ) → accepted g (Mark at) ≡ true → IntoTrailer g (z - 4) at
   unfolding markPlace
-  mark-only at e = go (or-cases (eqb at (g .boot + slotSize g - 4)) (eqb at (g .update + slotSize g - 4)) e)
+  mark-only at e =
+      ⊎-elim (at-end Boot) (at-end Update) (or-cases (eqb at (g .boot + slotSize g - 4)) (eqb at (g .update + slotSize g - 4)) e)
     where
-      at-end : (s : Slot) → at ≡ start g s + slotSize g - 4 → IntoTrailer g (z - 4) at
-      at-end s q = (s, omega (arith, trailer-is s, v .shape .size-min))
-
-      go : (eqb at (g .boot + slotSize g - 4) ≡ true) ⊎ (eqb at (g .update + slotSize g - 4) ≡ true) → IntoTrailer g (z - 4) at
-      go (inl w) = at-end Boot (eqb-true at (g .boot + slotSize g - 4) w)
-      go (inr w) = at-end Update (eqb-true at (g .update + slotSize g - 4) w)
+      at-end : (s : Slot) → eqb at (start g s + slotSize g - 4) ≡ true → IntoTrailer g (z - 4) at
+      at-end s w = let q = eqb-true at (start g s + slotSize g - 4) w in (s, omega (arith, trailer-is s, v .shape .size-min))
 
   pub accepts : Accepted g
   accepts = record {
