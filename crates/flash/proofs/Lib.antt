@@ -1,4 +1,6 @@
 pub mod Areas
 pub mod Writes
+pub mod Parts
+pub mod Loops
 pub mod Targets
 pub mod Shown

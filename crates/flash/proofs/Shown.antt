@@ -21,9 +21,9 @@ use Rattle.flash.specs.declared.geometry.Geometry.{Geometry}
 use Rattle.flash.specs.declared.steps.Step.{Step}
 use Rattle.flash.specs.declared.steps.Step.the-variants.{Erase, Copy, Byte, Mark}
 use Rattle.flash.proofs.Areas.{valid}
+use Rattle.flash.proofs.Parts.{length-part}
 use Rattle.flash.proofs.Targets.{target-inside, target-fits, copy-fits}
-use Rattle.flash.proofs.Writes.{length-blank, length-write, length-overlay, write-before, write-in, write-after, overlay-before}
-use Rattle.flash.proofs.Writes.{overlay-after, length-part}
+use Rattle.flash.proofs.Writes.{length-blank, length-write, length-overlay, write-before, write-in, write-after, overlay-before, overlay-after}
 
 -- ---- accepted
 

@@ -1,19 +1,13 @@
--- Laws of bytes erased and written: lengths, single bytes, the turns of the loops, and a part lent on. Assumes nothing.
+-- Bytes erased and written: lengths, and single bytes. Assumes nothing.
 use Prim.Native.Nat.{ℕ, zero, suc, _+_, _-_, _≤_, _<_}
-use mathlib.Core.List.{List, [], _∷_, _++_, append-nil, append-assoc}
-use mathlib.Core.Logic.{inl, inr}
-use mathlib.Core.Path.{_≡_, refl, sym, ap, ap₂, _∙_, subst}
-use native.Mathlib.Decide.{decLt}
-use native.Mathlib.Nat.{not-suc-le-zero, le-of-suc-le-suc, le-of-eq, zero-add, add-zero}
-use native.Mathlib.Numerals.{add-one}
+use mathlib.Core.List.{List, [], _∷_, _++_}
+use mathlib.Core.Path.{_≡_, refl, sym, ap, _∙_, subst}
+use native.Mathlib.Nat.{not-suc-le-zero, le-of-suc-le-suc}
 use native.Mathlib.Omega.{arith}
 use lib.Bits.{bitAnd, and-zero-l}
-use lib.ListN.{length, take, drop, getD, set, replicate, length-append, length-take, length-drop, length-replicate, take-append-drop}
-use lib.ListN.{drop-of-length-le, replicate-append-replicate, List·getD-append}
-use lib.Seq.{take-all, take-suc, drop-cons, length-take-le, getD-append-add, set-at, take-at, drop-at, take-set-le, drop-set-add}
-use lib.Seq.{take-suc-set, getD-take, getD-drop, drop-drop, take-add, ext-getD}
+use lib.ListN.{length, take, drop, getD, length-append, length-take, length-drop, length-replicate, take-append-drop, List·getD-append}
+use lib.Seq.{length-take-le, getD-append-add, take-at, drop-at, getD-take, getD-drop}
 use Rattle.flash.specs.Bytes.{blank, overlay, ands, write}
-use Rattle.flash.specs.Valid.{Apart}
 
 -- ---- lengths
 
@@ -40,89 +34,17 @@ pub length-overlay : (f : List ℕ) (at : ℕ) (d : List ℕ) → at + length d 
 unfolding overlay
 length-overlay f at d h = simp (length-append, length-take, length-drop) (omega arith)
 
--- ---- the turns of the loops
-
-pub erase-turn : (p : List ℕ) (i : ℕ) (xs : List ℕ) → i < length p → xs ≡ overlay p 0 (blank i)
-    → set xs i 255 ≡ overlay p 0 (blank (i + 1))
-unfolding overlay blank
-erase-turn p i xs h e = rw (
-  e,
-  zero-add (length {A = ℕ} (replicate i 255)),
-  zero-add (length {A = ℕ} (replicate (i + 1) 255)),
-  length-replicate {A = ℕ} i 255,
-  length-replicate {A = ℕ} (i + 1) 255,
-  drop-cons p i 0 h,
-  set-at (replicate i 255) (getD p i 0) (drop (suc i) p) 255 i (length-replicate {A = ℕ} i 255),
-  ← replicate-append-replicate {A = ℕ} i 1 255,
-  append-assoc,
-  add-one,
-)
-
-ands-turn : (f d : List ℕ) (i : ℕ) → i < length f → i < length d
-    → set (ands f (take i d)) i (bitAnd (getD (ands f (take i d)) i 0) (getD d i 0)) ≡ ands f (take (suc i) d)
-unfolding ands
-ands-turn [] d i h k = absurd (not-suc-le-zero h)
-ands-turn (x ∷ f) [] i h k = absurd (not-suc-le-zero k)
-ands-turn (x ∷ f) (y ∷ d) zero h k = refl
-ands-turn (x ∷ f) (y ∷ d) (suc i) h k =
-    ap (λ (l : List ℕ). bitAnd x y ∷ l) (ands-turn f d i (le-of-suc-le-suc h) (le-of-suc-le-suc k))
-
 module _ (f : List ℕ) (at : ℕ) (h : at ≤ length f) where
   seam : length (take at f) ≡ at
   seam = length-take-le at f h
 
-  take-write : (d : List ℕ) → take at (write f at d) ≡ take at f
+  pub take-write : (d : List ℕ) → take at (write f at d) ≡ take at f
   unfolding write
   take-write d = take-at (take at f) (ands (drop at f) d) at seam
 
-  drop-write : (d : List ℕ) → drop at (write f at d) ≡ ands (drop at f) d
+  pub drop-write : (d : List ℕ) → drop at (write f at d) ≡ ands (drop at f) d
   unfolding write
   drop-write d = drop-at (take at f) (ands (drop at f) d) at seam
-
-pub write-turn : (p d : List ℕ) (at i : ℕ) (xs : List ℕ) → at + length d ≤ length p → i < length d → xs ≡ write p at (take i d)
-    → set xs (at + i) (bitAnd (getD xs (at + i) 0) (getD d i 0)) ≡ write p at (take (i + 1) d)
-unfolding write
-write-turn p d at i xs h k e =
-    let l : at ≤ length p = omega arith in
-    let v : ℕ = bitAnd (getD xs (at + i) 0) (getD d i 0) in
-    let a : take at (set xs (at + i) v) ≡ take at p = take-set-le at xs (at + i) v (omega arith) ∙ ap (take at) e ∙ take-write p at l (take i d) in
-    let b : drop at xs ≡ ands (drop at p) (take i d) = ap (drop at) e ∙ drop-write p at l (take i d) in
-    let c : drop at (set xs (at + i) v) ≡ ands (drop at p) (take (suc i) d) =
-    drop-set-add at xs i v
-    ∙ ap (λ (x : ℕ). set (drop at xs) i (bitAnd x (getD d i 0))) (sym (getD-drop at xs i 0))
-    ∙ ap (λ (y : List ℕ). set y i (bitAnd (getD y i 0) (getD d i 0))) b
-    ∙ ands-turn (drop at p) d i (omega (arith, length-drop at p)) k in
-    sym (take-append-drop at (set xs (at + i) v)) ∙ rw (a, c, add-one)
-
-pub load-turn : (part xs : List ℕ) (i : ℕ) → i < length xs → i < length part → take i xs ≡ take i part
-    → take (i + 1) (set xs i (getD part i 0)) ≡ take (i + 1) part
-load-turn part xs i h k e = rw (add-one, take-suc-set, e, take-suc part i 0)
-
--- ---- a part lent on
-
--- what a callee that was lent `&mut f[at..]` made of the part, said of the whole
-module _ (f : List ℕ) (at : ℕ) (h : at ≤ length f) where
-  pub all-of-it : take (length f - at) (drop at f) ≡ drop at f
-  all-of-it = take-all (length f - at) (drop at f) (le-of-eq (length-drop at f))
-
-  back : (ys : List ℕ) → take at f ++ (ys ++ drop (length f - at) (drop at f)) ≡ take at f ++ ys
-  back ys = rw (drop-of-length-le (drop at f) (le-of-eq (length-drop at f)), append-nil ys)
-
-  pub written-part : (k : ℕ) (d ys : List ℕ) → ys ≡ write (take (length f - at) (drop at f)) k d
-      → take at f ++ (ys ++ drop (length f - at) (drop at f)) ≡ write f (at + k) d
-  unfolding write
-  written-part k d ys e =
-      back ys ∙ rw (e, all-of-it, take-add at k f, drop-drop k at f, append-assoc)
-
-  pub written-start : (d ys : List ℕ) → ys ≡ write (take (length f - at) (drop at f)) 0 d
-      → take at f ++ (ys ++ drop (length f - at) (drop at f)) ≡ write f at d
-  written-start d ys e = rw add-zero at (written-part 0 d ys e)
-
-  pub erased-part : (d ys : List ℕ) → ys ≡ overlay (take (length f - at) (drop at f)) 0 d
-      → take at f ++ (ys ++ drop (length f - at) (drop at f)) ≡ overlay f at d
-  unfolding overlay
-  erased-part d ys e =
-      back ys ∙ rw (e, all-of-it, zero-add, drop-drop (length d) at f, append-assoc)
 
 -- ---- single bytes
 
@@ -182,105 +104,3 @@ module _ (f : List ℕ) (at : ℕ) (d : List ℕ) (h : at + length d ≤ length 
       subst (λ (j : ℕ). getD (take at f ++ d ++ drop (at + length d) f) j 0 ≡ getD f i 0) e
       (getD-append-add (take at f ++ d) (drop (at + length d) f) (i - (at + length d)) 0
       ∙ getD-drop (at + length d) f (i - (at + length d)) 0 ∙ ap (λ (j : ℕ). getD f j 0) e′)
-
--- ---- parts: n bytes from a on
-
-pub length-part : (f : List ℕ) (a n : ℕ) → a + n ≤ length f → length (take n (drop a f)) ≡ n
-length-part f a n h = simp (length-take, length-drop) (omega arith)
-
-pub getD-part : (f : List ℕ) (a n i : ℕ) → i < n → getD (take n (drop a f)) i 0 ≡ getD f (a + i) 0
-getD-part f a n i h = getD-take n (drop a f) i 0 h ∙ getD-drop a f i 0
-
--- a part is known by its bytes
-pub part-is : (f : List ℕ) (a n : ℕ) (l : List ℕ) → a + n ≤ length f → length l ≡ n
-    → ((i : ℕ) → i < n → getD f (a + i) 0 ≡ getD l i 0) → take n (drop a f) ≡ l
-part-is f a n l h q e =
-    ext-getD 0 (take n (drop a f)) l (length-part f a n h ∙ sym q)
-    (λ i r. let k : i < n = omega (arith, length-part f a n h) in getD-part f a n i k ∙ e i k)
-
--- a part apart from what is written is as it was
-pub write-apart : (f : List ℕ) (at : ℕ) (d : List ℕ) (a n : ℕ) → at + length d ≤ length f → a + n ≤ length f
-    → Apart a n at (length d) → take n (drop a (write f at d)) ≡ take n (drop a f)
-write-apart f at d a n h k w =
-    part-is (write f at d) a n (take n (drop a f)) (omega (arith, length-write f at d)) (length-part f a n k)
-    (λ i r. go i r w ∙ sym (getD-part f a n i r))
-  where
-    go : (i : ℕ) → i < n → Apart a n at (length d) → getD (write f at d) (a + i) 0 ≡ getD f (a + i) 0
-    go i r (inl b) = write-before f at d (omega arith) (a + i) (omega arith)
-    go i r (inr b) = write-after f at d (omega arith) (a + i) (omega arith)
-
--- a part that holds what is written
-pub write-within : (f : List ℕ) (a n k : ℕ) (d : List ℕ) → a + n ≤ length f → k + length d ≤ n
-    → take n (drop a (write f (a + k) d)) ≡ write (take n (drop a f)) k d
-write-within f a n k d h r =
-    part-is (write f (a + k) d) a n (write s k d) (omega (arith, length-write f (a + k) d)) (length-write s k d ∙ long)
-    (λ i l. go i l (decLt i k) (decLt i (k + length d)))
-  where
-    s : List ℕ
-    s = take n (drop a f)
-
-    long : length s ≡ n
-    long = length-part f a n h
-
-    go : (i : ℕ) → i < n → Dec (i < k) → Dec (i < k + length d) → getD (write f (a + k) d) (a + i) 0 ≡ getD (write s k d) i 0
-    go i l (yes b) c =
-        write-before f (a + k) d (omega arith) (a + i) (omega arith)
-        ∙ sym (write-before s k d (omega (arith, long)) i b ∙ getD-part f a n i l)
-    go i l (no b) (no c) =
-        write-after f (a + k) d (omega arith) (a + i) (omega arith)
-        ∙ sym (write-after s k d (omega (arith, long)) i (omega arith) ∙ getD-part f a n i l)
-    go i l (no b) (yes c) =
-        let e : a + i ≡ a + k + (i - k) = omega arith in
-        let e′ : i ≡ k + (i - k) = omega arith in
-        ap (λ (x : ℕ). getD (write f (a + k) d) x 0) e
-        ∙ write-in f (a + k) d (omega arith) (i - k) (omega arith)
-        ∙ ap (λ (x : ℕ). bitAnd x (getD d (i - k) 0)) (ap (λ (x : ℕ). getD f x 0) (sym e) ∙ sym (getD-part f a n i l) ∙ ap (λ (x : ℕ). getD s x 0) e′)
-        ∙ sym (ap (λ (x : ℕ). getD (write s k d) x 0) e′ ∙ write-in s k d (omega (arith, long)) (i - k) (omega arith))
-
--- a part that is laid over
-pub overlay-whole : (f : List ℕ) (a n : ℕ) (d : List ℕ) → a + n ≤ length f → length d ≡ n → take n (drop a (overlay f a d)) ≡ d
-overlay-whole f a n d h q =
-    let fits : a + length d ≤ length f = omega arith in
-    part-is (overlay f a d) a n d (omega (arith, length-overlay f a d fits)) q (λ i l. overlay-in f a d fits i (omega arith))
-
--- ---- one write after the other
-
-ands-nil : (e : List ℕ) → ands [] e ≡ []
-unfolding ands
-ands-nil [] = refl
-ands-nil (y ∷ e) = refl
-
-ands-append : (q d e : List ℕ) → take (length d) (ands q d) ++ ands (drop (length d) (ands q d)) e ≡ ands q (d ++ e)
-unfolding ands
-ands-append q [] e = refl
-ands-append [] (y ∷ d) e = ands-nil e
-ands-append (x ∷ q) (y ∷ d) e = ap (λ (l : List ℕ). bitAnd x y ∷ l) (ands-append q d e)
-
-pub write-write : (f : List ℕ) (at : ℕ) (d e : List ℕ) → at ≤ length f
-    → write (write f at d) (at + length d) e ≡ write f at (d ++ e)
-unfolding write
-write-write f at d e h = rw (
-  take-add at (length d) (write f at d),
-  ← drop-drop (length d) at (write f at d),
-  take-write f at h d,
-  drop-write f at h d,
-  append-assoc,
-  ands-append (drop at f) d e,
-)
-
--- a page more of a copy
-pub page-turn : (f cur page : List ℕ) (from to z k m : ℕ) → from + z ≤ length f → to + z ≤ length f → Apart from z to z → k + m ≤ z
-    → cur ≡ write f to (take k (drop from f)) → page ≡ take m (drop (from + k) cur)
-    → write cur (to + k) page ≡ write f to (take (k + m) (drop from f))
-page-turn f cur page from to z k m hf ht w hk ec ep =
-    let l : length (take k (drop from f)) ≡ k = length-part f from k (omega arith) in
-    let p : page ≡ take m (drop (from + k) f) = ep ∙ ap (λ (x : List ℕ). take m (drop (from + k) x)) ec
-    ∙ write-apart f to (take k (drop from f)) (from + k) m (omega (arith, l)) (omega arith) (near w) in
-    ap₂ (λ (x y : List ℕ). write x (to + k) y) ec p
-    ∙ ap (λ (x : ℕ). write (write f to (take k (drop from f))) (to + x) (take m (drop (from + k) f))) (sym l)
-    ∙ write-write f to (take k (drop from f)) (take m (drop (from + k) f)) (omega arith)
-    ∙ rw (take-add k m (drop from f), drop-drop k from f)
-  where
-    near : Apart from z to z → Apart (from + k) m to (length (take k (drop from f)))
-    near (inl a) = inl (omega arith)
-    near (inr a) = inr (omega (arith, length-part f from k (omega arith)))

@@ -14,7 +14,8 @@ use Rattle.flash.specs.Steps.{closing}
 use Rattle.flash.specs.Valid.{Apart, Valid}
 use Rattle.flash.specs.declared.geometry.Geometry.{Geometry}
 use Rattle.flash.proofs.Areas.{valid}
-use Rattle.flash.proofs.Writes.{length-blank, length-part, getD-part, part-is, write-within, overlay-whole}
+use Rattle.flash.proofs.Parts.{length-part, getD-part, part-is, write-within, overlay-whole}
+use Rattle.flash.proofs.Writes.{length-blank}
 use Rattle.slots.specs.OnePlace.{Stepped, Sectors, OnePlace}
 use Rattle.slots.specs.Places.{start, offset, Within, bytesAt}
 use Rattle.slots.specs.declared.places.Place.{Place}

@@ -10,7 +10,7 @@ use Rattle.compare.specs.Compare.{same, all}
 use Rattle.flash.specs.Cuts.{sound}
 use Rattle.flash.specs.Steps.{closing}
 use Rattle.flash.specs.declared.geometry.Geometry.{Geometry}
-use Rattle.flash.proofs.Writes.{all-of-it}
+use Rattle.flash.proofs.Loops.{all-of-it}
 use Rattle.slots.specs.Trailers.{soundWith, flagCount, allButState}
 use Rattle.slots.specs.declared.places.Slot.{Slot}
 use Rattle.slots.specs.declared.places.Slot.the-variants.{Boot, Update}

@@ -8,7 +8,7 @@ use lib.ListN.{length, take, drop}
 use Rattle.flash.specs.Geometry.{slotSize}
 use Rattle.flash.specs.Valid.{Valid}
 use Rattle.flash.specs.declared.geometry.Geometry.{Geometry}
-use Rattle.flash.proofs.Writes.{length-part}
+use Rattle.flash.proofs.Parts.{length-part}
 use Rattle.slots.specs.Places.{start, offset, Within, bytesAt, SectorIs}
 use Rattle.slots.specs.declared.places.Place.{Place}
 use Rattle.slots.specs.declared.places.Place.the-variants.{Sector, Swap}

@@ -4,7 +4,7 @@ use native.Mathlib.Omega.{arith}
 use borrow.Author.Needs.{needs}
 use lib.ListN.{length, length-set}
 use Rattle.flash.specs.Bytes.{blank, overlay}
-use Rattle.flash.proofs.Writes.{erase-turn}
+use Rattle.flash.proofs.Loops.{erase-turn}
 use Rattle.flash.proofs.bytes.erase.Statement.{statement}
 use Rattle.flash.proofs.bytes.erase.Tie as tie
 

@@ -4,7 +4,7 @@ use native.Mathlib.Omega.{arith}
 use borrow.Author.Needs.{needs}
 use lib.ListN.{length, take, length-set}
 use lib.Seq.{take-all}
-use Rattle.flash.proofs.Writes.{load-turn}
+use Rattle.flash.proofs.Loops.{load-turn}
 use Rattle.flash.proofs.bytes.load.Statement.{statement}
 use Rattle.flash.proofs.bytes.load.Tie as tie
 

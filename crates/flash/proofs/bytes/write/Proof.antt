@@ -5,7 +5,7 @@ use borrow.Author.Needs.{needs}
 use lib.ListN.{length, take, length-set, take-append-drop}
 use lib.Seq.{take-length}
 use Rattle.flash.specs.Bytes.{ands, write}
-use Rattle.flash.proofs.Writes.{write-turn}
+use Rattle.flash.proofs.Loops.{write-turn}
 use Rattle.flash.proofs.bytes.write.Statement.{statement}
 use Rattle.flash.proofs.bytes.write.Tie as tie
 

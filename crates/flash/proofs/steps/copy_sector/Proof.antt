@@ -4,7 +4,7 @@ use native.Mathlib.Omega.{arith}
 use borrow.Author.Needs.{needs}
 use lib.ListN.{length, take, drop, take-append-drop}
 use Rattle.flash.specs.Bytes.{ands, write}
-use Rattle.flash.proofs.Writes.{all-of-it, written-part, page-turn}
+use Rattle.flash.proofs.Loops.{all-of-it, written-part, page-turn}
 use Rattle.flash.proofs.steps.copy_sector.Statement.{statement}
 use Rattle.flash.proofs.steps.copy_sector.Tie as tie
 

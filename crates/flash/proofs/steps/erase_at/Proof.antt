@@ -1,6 +1,6 @@
 use native.Mathlib.Omega.{arith}
 use borrow.Author.Needs.{needs}
-use Rattle.flash.proofs.Writes.{erased-part}
+use Rattle.flash.proofs.Loops.{erased-part}
 use Rattle.flash.proofs.steps.erase_at.Statement.{statement}
 use Rattle.flash.proofs.steps.erase_at.Tie as tie
 

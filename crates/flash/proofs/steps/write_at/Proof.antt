@@ -1,6 +1,6 @@
 use native.Mathlib.Omega.{arith}
 use borrow.Author.Needs.{needs}
-use Rattle.flash.proofs.Writes.{written-start}
+use Rattle.flash.proofs.Loops.{written-start}
 use Rattle.flash.proofs.steps.write_at.Statement.{statement}
 use Rattle.flash.proofs.steps.write_at.Tie as tie
 
