@@ -1,6 +1,6 @@
 -- What C gets of a lookup.
-use Rattle.header.specs.declared.tags.Lookup.the-variants.{Found, Refused}
 use Rattle.header.specs.declared.tags.Lookup.{Lookup}
+use Rattle.header.specs.declared.tags.Lookup.the-variants.{Found, Refused}
 use Rattle.frondicare.specs.declared.TagPlace.{TagPlace}
 
 -- the number 0 and where the tag's content lies, or document 01's number and zeros

@@ -1,7 +1,7 @@
 use mathlib.Core.Path.{sym}
 use native.Mathlib.Omega.{arith}
-use lib.Seq.{length-take-le}
 use borrow.Author.Needs.{needs}
+use lib.Seq.{length-take-le}
 use Rattle.flash_cases.proofs.answer_in.Statement.{statement}
 use Rattle.flash_cases.proofs.answer_in.Tie as tie
 

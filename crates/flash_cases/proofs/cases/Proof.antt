@@ -1,6 +1,6 @@
 use Prim.Native.Nat.{_≤_, _-_}
-use lib.ListN.{length}
 use borrow.Author.Needs.{needs}
+use lib.ListN.{length}
 use Rattle.flash_cases.proofs.cases.Statement.{statement}
 use Rattle.flash_cases.proofs.cases.Tie as tie
 

@@ -1,6 +1,6 @@
 use mathlib.Core.Path.{sym}
-use lib.ListN.{List·getD-eq-default}
 use borrow.Author.Needs.{needs}
+use lib.ListN.{List·getD-eq-default}
 use Rattle.records.proofs.byte_at.Statement.{statement}
 use Rattle.records.proofs.byte_at.Tie as tie
 

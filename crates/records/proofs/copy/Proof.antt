@@ -3,11 +3,11 @@ use mathlib.Core.List.{List}
 use mathlib.Core.Path.{_≡_, refl, sym, ap, _∙_}
 use native.Mathlib.Numerals.{add-one}
 use native.Mathlib.Omega.{arith}
+use borrow.Author.Needs.{needs}
 use lib.ListN.{length, take, set, length-set}
 use lib.Seq.{take-all, take-suc-set}
 use Rattle.header.specs.Numbers.{byteAt}
 use Rattle.records.specs.Records.{firstOf}
-use borrow.Author.Needs.{needs}
 use Rattle.records.proofs.copy.Statement.{statement}
 use Rattle.records.proofs.copy.Tie as tie
 

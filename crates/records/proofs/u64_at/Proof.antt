@@ -2,9 +2,9 @@ use Prim.Native.Nat.{ℕ, _+_, _*_}
 use mathlib.Core.List.{List}
 use mathlib.Core.Path.{_≡_}
 use native.Mathlib.Omega.{arith}
+use borrow.Author.Needs.{needs}
 use Rattle.header.specs.Numbers.{numberAt}
 use Rattle.header.proofs.Numbers.{past}
-use borrow.Author.Needs.{needs}
 use Rattle.records.proofs.u64_at.Statement.{statement}
 use Rattle.records.proofs.u64_at.Tie as tie
 

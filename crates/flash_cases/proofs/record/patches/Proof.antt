@@ -1,7 +1,7 @@
 use Prim.Native.Nat.{_≤_, _-_}
 use mathlib.Core.Path.{_≡_}
-use lib.ListN.{length}
 use borrow.Author.Needs.{needs}
+use lib.ListN.{length}
 use Rattle.flash_cases.proofs.record.patches.Statement.{statement}
 use Rattle.flash_cases.proofs.record.patches.Tie as tie
 

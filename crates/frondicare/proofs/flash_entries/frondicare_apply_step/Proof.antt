@@ -5,11 +5,19 @@ use Rattle.frondicare.proofs.flash_entries.frondicare_apply_step.Tie as
 
 returns : tie.Need-returns
 returns c =
-    rw (← c .before .before .before .before .before .before .before .step-of .ensures, c .before .before .before .before .before .step .given .1, ← c .before .before .before .before .before .before .before .before .geometry-of .ensures) (c .before .before .apply-step .ensures)
+    rw (
+      ← c .before .before .before .before .before .before .before .step-of .ensures,
+      c .before .before .before .before .before .step .given .1,
+      ← c .before .before .before .before .before .before .before .before .geometry-of .ensures,
+    ) (c .before .before .apply-step .ensures)
 
 returns-2 : tie.Need-returns-2
 returns-2 c =
-    rw (← c .before .before .before .step-of .ensures, c .before .enum-told .given .1, ← c .before .before .before .before .geometry-of .ensures) (c .no-step .ensures, refl)
+    rw (
+      ← c .before .before .before .step-of .ensures,
+      c .before .enum-told .given .1,
+      ← c .before .before .before .before .geometry-of .ensures,
+    ) (c .no-step .ensures, refl)
 
 pub frondicare-apply-step-spec : {M : Type 1} → statement M
 frondicare-apply-step-spec =

@@ -1,5 +1,5 @@
-use borrow.Author.Tests.{eq-eqb, ne-eqb}
 use borrow.Author.Needs.{needs}
+use borrow.Author.Tests.{eq-eqb, ne-eqb}
 use Rattle.frondicare.proofs.flash_entries.no_step.Statement.{statement}
 use Rattle.frondicare.proofs.flash_entries.no_step.Tie as tie
 

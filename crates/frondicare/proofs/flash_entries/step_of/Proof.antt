@@ -1,6 +1,6 @@
+use borrow.Author.Needs.{needs}
 use borrow.Author.Tests.{le-leb, lt-leb, ne-eqb}
 use Rattle.frondicare.specs.Steps.{stepOf}
-use borrow.Author.Needs.{needs}
 use Rattle.frondicare.proofs.flash_entries.step_of.Statement.{statement}
 use Rattle.frondicare.proofs.flash_entries.step_of.Tie as tie
 
