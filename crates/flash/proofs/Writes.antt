@@ -5,8 +5,8 @@ use mathlib.Core.Path.{_≡_, refl, sym, ap, _∙_, subst}
 use native.Mathlib.Nat.{not-suc-le-zero, le-of-suc-le-suc}
 use native.Mathlib.Omega.{arith}
 use lib.Bits.{bitAnd, and-zero-l}
-use lib.ListN.{length, take, drop, getD, length-append, length-take, length-drop, length-replicate, take-append-drop, List·getD-append}
-use lib.Seq.{length-take-le, getD-append-add, take-at, drop-at, getD-take, getD-drop}
+use lib.ListN.{set, length, take, drop, getD, length-append, length-take, length-drop, length-replicate, take-append-drop, List·getD-append}
+use lib.Seq.{drop-cons, set-split, length-take-le, getD-append-add, take-at, drop-at, getD-take, getD-drop}
 use Rattle.flash.specs.Bytes.{blank, overlay, ands, write}
 
 -- ---- lengths
@@ -104,3 +104,13 @@ module _ (f : List ℕ) (at : ℕ) (d : List ℕ) (h : at + length d ≤ length 
       subst (λ (j : ℕ). getD (take at f ++ d ++ drop (at + length d) f) j 0 ≡ getD f i 0) e
       (getD-append-add (take at f ++ d) (drop (at + length d) f) (i - (at + length d)) 0
       ∙ getD-drop (at + length d) f (i - (at + length d)) 0 ∙ ap (λ (j : ℕ). getD f j 0) e′)
+
+-- ---- one byte, and all bytes
+
+pub write-one : (f : List ℕ) (k x : ℕ) → k < length f → write f k (x ∷ []) ≡ set f k (bitAnd (getD f k 0) x)
+unfolding write ands
+write-one f k x h = rw (drop-cons f k 0 h) (sym (set-split f k (bitAnd (getD f k 0) x) h))
+
+pub write-all : (f d : List ℕ) → write f 0 d ≡ ands f d
+unfolding write
+write-all f d = refl

@@ -14,8 +14,9 @@ use Rattle.flash.specs.Steps.{closing}
 use Rattle.flash.specs.Valid.{Apart, Valid}
 use Rattle.flash.specs.declared.geometry.Geometry.{Geometry}
 use Rattle.flash.proofs.Areas.{valid}
+use Rattle.flash.proofs.Closing.{length-closing}
 use Rattle.flash.proofs.Parts.{length-part, getD-part, part-is, write-within, overlay-whole}
-use Rattle.flash.proofs.Writes.{length-blank}
+use Rattle.flash.proofs.Writes.{write-all, length-blank}
 use Rattle.slots.specs.OnePlace.{Stepped, Sectors, OnePlace}
 use Rattle.slots.specs.Places.{start, offset, Within, bytesAt}
 use Rattle.slots.specs.declared.places.Place.{Place}
@@ -89,16 +90,15 @@ module _ (g : Geometry) (f : List ℕ) (v : Valid g (length f)) where
   written p w k d h = write-within f (offset g p) (g .size) k d (in-flash p w) h
 
   written-all : (p : Place) → Within g p → (d : List ℕ) → length d ≡ g .size → bytesAt g (write f (offset g p) d) p ≡ ands (bytesAt g f p) d
-  unfolding write
-  written-all p w d h = rw add-zero at (written p w 0 d (omega arith))
+  written-all p w d h = rw (add-zero, write-all) at (written p w 0 d (omega arith))
 
   steps : (p : Place) → Within g p → Stepped g f p
-  unfolding bytesAt closing
+  unfolding bytesAt
   steps p w = record {
     erased = overlay-whole f (offset g p) (g .size) (blank (g .size)) (in-flash p w) (length-blank (g .size));
     copied = λ q u. written-all p w (bytesAt g f q) (length-at q u);
     one-byte = λ k x h. written p w k (x ∷ []) (omega arith);
-    marked = written p w (g .size - 4) closing (omega (arith, v .shape .size-min));
+    marked = written p w (g .size - 4) closing (omega (arith, length-closing, v .shape .size-min));
     torn = λ f′ t. rw (t .is) (overlay-whole f (offset g p) (g .size) (t .left) (in-flash p w) (t .size));
   }
 

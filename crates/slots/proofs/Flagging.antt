@@ -12,14 +12,16 @@ use lib.Arith.{digits-div, digits-mod}
 use lib.Bits.{bitAnd, and-self, and-block, and-le-r}
 use lib.Dec.{eqb, ltb}
 use lib.ListN.{length, getD, set, length-set}
-use lib.Seq.{drop-cons, set-split, drop-set-lt, getD-set-same, getD-set-other, ext-getD}
-use Rattle.flash.specs.Bytes.{ands, write}
+use lib.Seq.{drop-set-lt, getD-set-same, getD-set-other, ext-getD}
+use Rattle.flash.specs.Bytes.{write}
 use Rattle.flash.specs.Cuts.{sound}
 use Rattle.flash.specs.Steps.{applied}
 use Rattle.flash.specs.Valid.{Valid}
 use Rattle.flash.specs.declared.geometry.Geometry.{Geometry}
 use Rattle.flash.specs.declared.steps.Step.{Step}
 use Rattle.flash.proofs.Areas.{valid}
+use Rattle.flash.proofs.Closing.{sound-is}
+use Rattle.flash.proofs.Writes.{write-one}
 use Rattle.slots.specs.Correspondence.{flagFor, Flags}
 use Rattle.slots.specs.FlagWritten.{Flagged, FlagWritten, NextFlag}
 use Rattle.slots.specs.Flags.{half, withHalf, flagAt, flag, flags, nextFlag, flagStep, nextFlagOf}
@@ -73,10 +75,6 @@ module _ (b v : ℕ) (hv : v < 16) where
 
 -- ---- one flag of a trailer
 
-write-one : (t : List ℕ) (k x : ℕ) → k < length t → write t k (x ∷ []) ≡ set t k (bitAnd (getD t k 0) x)
-unfolding write ands
-write-one t k x h = rw (drop-cons t k 0 h) (sym (set-split t k (bitAnd (getD t k 0) x) h))
-
 module _ (t : List ℕ) (i v : ℕ) (hz : 256 ≤ length t) (hi : i < 64) (hv : v < 16) where
   abbrev k : ℕ
   k = flagAt (length t) i
@@ -111,8 +109,8 @@ module _ (t : List ℕ) (i v : ℕ) (hz : 256 ≤ length t) (hi : i < 64) (hv : 
   same-state = rw (length-set t k new, getD-set-other t k (length t - 5) new 0 (omega arith))
 
   same-sound : sound (set t k new) ≡ sound t
-  unfolding sound flagAt
-  same-sound = rw (length-set t k new, drop-set-lt (length t - 4) t k new (omega arith))
+  unfolding flagAt
+  same-sound = rw (sound-is (set t k new), sound-is t, length-set t k new, drop-set-lt (length t - 4) t k new (omega arith))
 
   pub flagged : Flagged t (write t k (withHalf i v old ∷ [])) i v
   flagged = rw (write-one t k (withHalf i v old) in-trailer)

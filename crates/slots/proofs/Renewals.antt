@@ -1,15 +1,14 @@
 -- A trailer as the code reads it, and its renewal by the tests. Assumes nothing.
 use Prim.Native.Nat.{ℕ, _-_, _≤_}
 use mathlib.Core.Bool.{Bool, _&&_}
-use mathlib.Core.List.{List}
+use mathlib.Core.List.{List, [], _∷_}
 use mathlib.Core.Path.{_≡_}
 use native.Mathlib.Omega.{arith}
 use lib.Dec.{eqb}
 use lib.ListN.{length, take, drop, getD}
 use Rattle.compare.specs.Compare.{same, all}
-use Rattle.flash.specs.Cuts.{sound}
-use Rattle.flash.specs.Steps.{closing}
 use Rattle.flash.specs.declared.geometry.Geometry.{Geometry}
+use Rattle.flash.proofs.Closing.{closing-is, sound-is}
 use Rattle.flash.proofs.Loops.{all-of-it}
 use Rattle.slots.specs.Trailers.{soundWith, flagCount, allButState}
 use Rattle.slots.specs.declared.places.Slot.{Slot}
@@ -19,10 +18,10 @@ module _ (t : List ℕ) (v : ℕ) (h : 256 ≤ length t) where
   five : length t - 4 - 1 ≡ length t - 5
   five = omega arith
 
-  pub sound-read : (r : Bool) → r ≡ same (take (length t - (length t - 4)) (drop (length t - 4) t)) closing
+  pub sound-read : (r : Bool) → r ≡ same (take (length t - (length t - 4)) (drop (length t - 4) t)) (0x42 ∷ 0x4F ∷ 0x4F ∷ 0x54 ∷ [])
       → (r && eqb (getD t (length t - 4 - 1) 0) v) ≡ soundWith t v
-  unfolding soundWith sound
-  sound-read r e = rw (e, all-of-it t (length t - 4) (omega arith), five)
+  unfolding soundWith
+  sound-read r e = rw (sound-is t, closing-is, e, all-of-it t (length t - 4) (omega arith), five)
 
   pub all-read : (r q : Bool) → r ≡ all 0xFF (take (length t - 4 - 1) t) → q ≡ all 0xFF (take (length t - (length t - 4)) (drop (length t - 4) t))
       → (r && eqb (getD t (length t - 4 - 1) 0) v && q) ≡ allButState t v

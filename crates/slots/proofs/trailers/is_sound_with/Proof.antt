@@ -1,11 +1,9 @@
 use borrow.Author.Needs.{needs}
-use Rattle.flash.specs.Steps.{closing}
 use Rattle.slots.proofs.Renewals.{sound-read}
 use Rattle.slots.proofs.trailers.is_sound_with.Statement.{statement}
 use Rattle.slots.proofs.trailers.is_sound_with.Tie as tie
 
 returns : tie.Need-returns
-unfolding closing
 returns c =
     let a = c .before .before .before .before .before in
     sound-read (a .args .t .now) (a .args .state) (a .pre) (c .before .same .result) (c .before .same .ensures)
