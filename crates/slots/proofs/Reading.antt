@@ -12,7 +12,7 @@ use lib.ListN.{length, drop, getD, drop-of-length-le}
 use lib.Seq.{drop-cons}
 use Rattle.compare.specs.Compare.{all}
 use Rattle.compare.proofs.Values.{all-stop, all-go, all-end}
-use Rattle.slots.specs.Flags.{flag, tab, flags, wellFormed, stage, progress, progressOf, finishedIn}
+use Rattle.slots.specs.Flags.{flag, tab, flags, wellFormed, stage, progress, progressOf, finishedIn, progressAt, new, swapping, backup}
 use Rattle.slots.specs.declared.answers.Progress.the-variants.{At, Refused}
 
 length-tab : (n : ℕ) (h : ℕ → ℕ) → length (tab n h) ≡ n
@@ -36,15 +36,6 @@ module _ (n : ℕ) (t : List ℕ) where
   getD-flags i h = getD-tab n (flag t) i h
 
 -- ---- the finished sectors
-
-pub finished-le : (fs : List ℕ) → finishedIn fs ≤ length fs
-unfolding finishedIn
-finished-le [] = omega arith
-finished-le (x ∷ xs) = go (eqb x 0) (finished-le xs)
-  where
-    go : (b : Bool) → finishedIn xs ≤ length xs → cond b (suc (finishedIn xs)) 0 ≤ suc (length xs)
-    go true h = omega arith
-    go false h = omega arith
 
 module _ (i : ℕ) (fs : List ℕ) {P : ℕ} (inv : i + finishedIn (drop i fs) ≡ P) where
   cons : i < length fs → i + cond (eqb (getD fs i 0) 0) (suc (finishedIn (drop (i + 1) fs))) 0 ≡ P
@@ -125,41 +116,27 @@ module _ (n i : ℕ) (t : List ℕ) (h : n ≤ i) where
 
 -- ---- the progress that the code answers
 
+pub progress-done : (n i : ℕ) (t : List ℕ) → n ≤ i → i ≤ n → i + finishedIn (drop i (flags n t)) ≡ finishedIn (flags n t)
+    → At (3 * n) ≡ progressOf (flags n t)
+unfolding progressOf
+progress-done n i t h k e =
+    let q : i ≡ n = omega arith in
+    let f = all-finished (flags n t) (sym (zeros-end n i t h e) ∙ q ∙ sym (length-flags n t)) in
+    rw (f .0, f .1, length-flags n t)
+
+-- sector i is the first whose flag isn't 0
+pub progress-current : (n i : ℕ) (t : List ℕ) {x : ℕ} → i < n → x ≡ flag t i → i + finishedIn (drop i (flags n t)) ≡ finishedIn (flags n t)
+    → x ≢ 0 → progressAt i x (all new (drop (i + 1) (flags n t))) ≡ progressOf (flags n t)
+unfolding progressOf progressAt
+progress-current n i t {x} h d e z =
+    let first : i ≡ finishedIn (flags n t) = zeros-stop n i t h d e z in
+    let c : Current (flags n t) i = rw (← first) at (current (flags n t) (rw (length-flags n t, ← first) h)) in
+    rw (c .formed, c .reached, is-flag n i t h d, add-one i)
+
 and-false : (b : Bool) → (b && false) ≡ false
 and-false true = refl
 and-false false = refl
 
-pub progress-done : (n : ℕ) (t : List ℕ) → n ≡ finishedIn (flags n t) → At (3 * n) ≡ progressOf (flags n t)
-unfolding progressOf
-progress-done n t e =
-    let h = all-finished (flags n t) (sym e ∙ sym (length-flags n t)) in
-    rw (h .0, h .1, length-flags n t)
-
--- sector i is the first whose flag isn't 0, and x is its flag
-pub record Read (n : ℕ) (t : List ℕ) (i x : ℕ) : Type 0 where
-  pub in-count : i < n
-  pub first : i ≡ finishedIn (flags n t)
-  pub is : x ≡ flag t i
-
-module _ {n : ℕ} {t : List ℕ} {i x : ℕ} (r : Read n t i x) where
-  here : Current (flags n t) i
-  here = rw (← r .first) at (current (flags n t) (rw (length-flags n t, ← r .first) (r .in-count)))
-
-  its-flag : getD (flags n t) i 0 ≡ x
-  its-flag = is-flag n i t (r .in-count) (r .is)
-
-  formed : (b : Bool) → b ≡ all 15 (drop (i + 1) (flags n t)) → wellFormed (flags n t) ≡ ((eqb x 7 || eqb x 3 || eqb x 15) && b)
-  formed b a = here .formed ∙ rw (its-flag, ← add-one i, ← a)
-
-  pub progress-at : (k : ℕ) → true ≡ all 15 (drop (i + 1) (flags n t)) → ((eqb x 7 || eqb x 3 || eqb x 15) && true) ≡ true → 3 * i + stage x ≡ k
-      → At k ≡ progressOf (flags n t)
-  unfolding progressOf
-  progress-at k a b q = rw (formed true a, b, here .reached, its-flag, q)
-
-  pub ill-formed : (b : Bool) → b ≡ all 15 (drop (i + 1) (flags n t)) → ((eqb x 7 || eqb x 3 || eqb x 15) && b) ≡ false
-      → Refused 20 ≡ progressOf (flags n t)
-  unfolding progressOf
-  ill-formed b a e = rw (formed b a, e)
-
-  pub rest-not-new : false ≡ all 15 (drop (i + 1) (flags n t)) → Refused 20 ≡ progressOf (flags n t)
-  rest-not-new a = ill-formed false a (and-false (eqb x 7 || eqb x 3 || eqb x 15))
+pub not-new : (v i : ℕ) → Refused 20 ≡ progressAt i v false
+unfolding progressAt
+not-new v i = rw (and-false (eqb v swapping || eqb v backup || eqb v new))

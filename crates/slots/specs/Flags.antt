@@ -85,7 +85,8 @@ unfoldable pub nextFlagOf : Geometry → List ℕ → ℕ → Work
 nextFlagOf g f p =
     cond (ltb p (3 * g .count)) (Due (flagStep (offset g (Sector Update (g .count))) (trailerOf g f Update) p)) Finished
 
--- ---- the code's own: a flag byte lies in the trailer; the finished sectors are those before the first whose flag isn't 0
+-- ---- the code's own: a flag byte lies in the trailer; the finished sectors are those before the first whose flag isn't 0, and the
+-- progress by that flag and whether the rest is new
 
 pub record FlagPlace (len i at : ℕ) : Type 0 where
   pub is : at ≡ flagAt len i
@@ -94,3 +95,6 @@ pub record FlagPlace (len i at : ℕ) : Type 0 where
 unfoldable pub finishedIn : List ℕ → ℕ
 finishedIn [] = 0
 finishedIn (x ∷ xs) = cond (eqb x updated) (suc (finishedIn xs)) 0
+
+unfoldable pub progressAt : ℕ → ℕ → Bool → Progress
+progressAt i v rest = cond ((eqb v swapping || eqb v backup || eqb v new) && rest) (At (3 * i + stage v)) (Refused 20)

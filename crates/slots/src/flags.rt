@@ -5,7 +5,7 @@ ghost use Prim.Native.Nat.{_+_, _^_, _≤_, _<_};
 ghost use lib.ListN.{length, drop};
 ghost use Rattle.compare.specs.Compare.{all};
 ghost use Rattle.flash.specs.Valid.{Valid};
-ghost use Rattle.slots.specs.Flags.{half, withHalf, FlagPlace, flag, flags, nextFlag, finishedIn, progressOf, flagStep, nextFlagOf};
+ghost use Rattle.slots.specs.Flags.{new, half, withHalf, FlagPlace, flag, flags, nextFlag, progressAt, progressOf, flagStep, nextFlagOf};
 use crate::answers::Progress;
 use crate::answers::Work;
 use crate::places::Place;
@@ -65,31 +65,11 @@ pub(crate) fn is_rest(t: &[u8], n: usize, from: usize, v: u8) -> bool
     true
 }
 
-// How many sectors are finished: those before the first whose flag isn't 0.
-fn finished(t: &[u8], n: usize) -> usize
-    requires { ⌜ (256 ≤ length (now t)) × (n ≤ 64) ⌝ }
-    ensures { λ r. ⌜ (r ≡ finishedIn (flags n (now (t .entry)))) × (r ≤ n) ⌝ }
+// The progress where sector i is the first whose flag isn't 0, and v is that flag.
+fn progress_at(t: &[u8], n: usize, i: usize, v: u8) -> Progress
+    requires { ⌜ (256 ≤ length (now t)) × (n ≤ 64) × (i < n) ⌝ }
+    ensures { λ r. ⌜ r ≡ progressAt i v (all new (drop (i + 1) (flags n (now (t .entry))))) ⌝ }
 {
-    let mut i = 0;
-    while i < n {
-        if flag(t, i) != 0 {
-            return i;
-        }
-        i += 1;
-    }
-    n
-}
-
-// The progress by the flags of n sectors, each flag read once.
-pub(crate) fn progress(t: &[u8], n: usize) -> Progress
-    requires { ⌜ (256 ≤ length (now t)) × (n ≤ 64) ⌝ }
-    ensures { λ r. ⌜ r ≡ progressOf (flags n (now (t .entry))) ⌝ }
-{
-    let i = finished(t, n);
-    if i == n {
-        return Progress::At(3 * n);
-    }
-    let v = flag(t, i);
     if is_rest(t, n, i + 1, 0xF) {
         match v {
             0xF => return Progress::At(3 * i),
@@ -99,6 +79,22 @@ pub(crate) fn progress(t: &[u8], n: usize) -> Progress
         }
     }
     Progress::Refused(20)
+}
+
+// The progress by the flags of n sectors, each read once.
+pub(crate) fn progress(t: &[u8], n: usize) -> Progress
+    requires { ⌜ (256 ≤ length (now t)) × (n ≤ 64) ⌝ }
+    ensures { λ r. ⌜ r ≡ progressOf (flags n (now (t .entry))) ⌝ }
+{
+    let mut i = 0;
+    while i < n {
+        let v = flag(t, i);
+        if v != 0 {
+            return progress_at(t, n, i, v);
+        }
+        i += 1;
+    }
+    Progress::At(3 * n)
 }
 
 // The flag that follows a progress in its sector.

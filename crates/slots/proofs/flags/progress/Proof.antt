@@ -1,63 +1,42 @@
-use Prim.Native.Nat.{_+_}
-use mathlib.Core.Bool.{true}
-use mathlib.Core.Path.{_≡_, sym, _∙_}
-use native.Mathlib.Nat.{add-zero}
+use Prim.Native.Nat.{_+_, _-_, _≤_}
+use mathlib.Core.Path.{_≡_, _∙_}
 use native.Mathlib.Omega.{arith}
 use borrow.Author.Needs.{needs}
-use borrow.Author.Tests.{ne-eqb}
 use lib.ListN.{drop}
-use Rattle.compare.specs.Compare.{all}
-use Rattle.slots.specs.Flags.{flags, stage}
-use Rattle.slots.proofs.Reading.{Read, progress-done, progress-at, ill-formed, rest-not-new}
+use Rattle.slots.specs.Flags.{flags, finishedIn}
+use Rattle.slots.proofs.Reading.{zeros-go, progress-done, progress-current}
 use Rattle.slots.proofs.flags.progress.Statement.{statement}
 use Rattle.slots.proofs.flags.progress.Tie as tie
 
--- the first flag that isn't 0, once the rest is read
-read :
-    (c : tie.After-is-rest) →
-    let i = c .before .before .before in
-    let a = i .before .before .args in
-    Read (a .n) (a .t .now) (i .finished .result) (c .before .flag .result)
-read c =
-    let i = c .before .before .before in
-    record { in-count = omega arith; first = i .finished .ensures .0; is = c .before .flag .ensures }
+abbrev Inv-loop : tie.InvT-loop
+Inv-loop t n i₀ i = (i ≤ n) × (i + finishedIn (drop i (flags n t)) ≡ finishedIn (flags n t))
 
--- and that the rest is new
-new : (c : tie.Then2) → let a = c .before .before .before .before .before .before .args in
-    let i = c .before .before .before .before .finished .result in
-    true ≡ all 15 (drop (i + 1) (flags (a .n) (a .t .now)))
-new c = sym (c .if2 .taken) ∙ c .before .is-rest .ensures
+abbrev μ-loop : tie.MeasureT-loop
+μ-loop t n i₀ i = n - i
 
-returns : tie.Need-returns
+loop-holds : tie.Need-loop-holds Inv-loop μ-loop
+loop-holds c = (omega arith, omega arith)
+
+returns : tie.Need-returns Inv-loop μ-loop
 returns c =
-    let i = c .before in
-    let a = i .before .before .args in
-    let e : a .n ≡ i .finished .result = omega arith in
-    progress-done (a .n) (a .t .now) (e ∙ i .finished .ensures .0)
+    let f = c .before .before in
+    let l = f .before .before in
+    let a = l .before .before .args in
+    c .progress-at .ensures ∙ progress-current (a .n) (l .loop .i) (a .t .now) (omega arith) (f .flag .ensures) (l .loop .inv .1) (c .before .if1 .taken)
 
-returns-2 : tie.Need-returns-2
-unfolding stage
-returns-2 c = progress-at (read (c .before .before)) _ (new (c .before)) (rw (c .match .keys1)) (rw (c .match .keys1, add-zero))
+loop-again : tie.Need-loop-again Inv-loop μ-loop
+loop-again c =
+    let l = c .before .before .before in
+    let a = l .before .before .args in
+    (omega arith, zeros-go (a .n) (l .loop .i) (a .t .now) (omega arith) (c .before .flag .ensures) (l .loop .inv .1) (c .if1 .left))
 
-returns-3 : tie.Need-returns-3
-unfolding stage
-returns-3 c = progress-at (read (c .before .before)) _ (new (c .before)) (rw (c .match .keys2)) (rw (c .match .keys2))
-
-returns-4 : tie.Need-returns-4
-unfolding stage
-returns-4 c = progress-at (read (c .before .before)) _ (new (c .before)) (rw (c .match .keys3)) (rw (c .match .keys3))
-
-returns-5 : tie.Need-returns-5
-returns-5 c =
-    let x = c .before .before .before .flag .result in
-    let none = c .match .rest in
-    ill-formed (read (c .before .before)) true (new (c .before)) (rw (ne-eqb x 15 (none .0 .0 .1), ne-eqb x 7 (none .0 .1), ne-eqb x 3 (none .1)))
-
-returns-6 : tie.Need-returns-6
-returns-6 c = rest-not-new (read (c .before)) (sym (c .if2 .left) ∙ c .before .is-rest .ensures)
+returns-2 : tie.Need-returns-2 Inv-loop μ-loop
+returns-2 c =
+    let l = c .before in
+    let a = l .before .before .args in
+    progress-done (a .n) (l .loop .i) (a .t .now) (omega arith) (omega arith) (l .loop .inv .1)
 
 pub progress-spec : {M : Type 1} → statement M
 progress-spec =
-    tie.close (tie.spec (λ c κs. search needs) (λ c. search needs) returns (λ c κs. search needs) (λ c. search needs) (λ c κs. search needs)
-    (λ c. search needs) returns-2 (λ c. search needs) (λ c. search needs) returns-3 (λ c. search needs) (λ c. search needs) returns-4
-    returns-5 returns-6)
+    tie.close (tie.spec Inv-loop μ-loop loop-holds (λ c κs. search needs) (λ c κs. search needs) returns (λ c. search needs) (λ c. search needs) loop-again
+    (λ c. search needs) returns-2)
