@@ -11,7 +11,7 @@ use lib.Dec.{eqb}
 use lib.ListN.{length, set, replicate, length-replicate}
 use Rattle.compare.specs.Compare.{all}
 use Rattle.compare.proofs.Tests.{and-left, and-right, or-cases}
-use Rattle.slots.specs.Correspondence.{flagFor, flagsFor, Flags, Says, OneToOne}
+use Rattle.slots.specs.Correspondence.{flagFor, flagsFor, FlagsAt, Says, OneToOne}
 use Rattle.slots.specs.Flags.{wellFormed, stage, progress, finishedIn, nextFlag}
 
 -- ---- lists of F
@@ -50,24 +50,24 @@ by-stage P a b c (suc (suc (suc p))) h = absurd (omega arith)
 -- ---- forth
 
 module _ (n : ℕ) (p : ℕ) where
-  starts : p < 3 → Flags (suc n) p (flagFor p ∷ replicate n 15)
+  starts : p < 3 → FlagsAt (suc n) p (flagFor p ∷ replicate n 15)
   unfolding flagFor wellFormed progress stage
-  starts h = by-stage (λ q. Flags (suc n) q (flagFor q ∷ replicate n 15)) (at 0 refl refl) (at 1 refl refl) (at 2 refl refl) p h
+  starts h = by-stage (λ q. FlagsAt (suc n) q (flagFor q ∷ replicate n 15)) (at 0 refl refl) (at 1 refl refl) (at 2 refl refl) p h
     where
       at : (q : ℕ) → wellFormed (flagFor q ∷ replicate n 15) ≡ all 15 (replicate n 15) → progress (flagFor q ∷ replicate n 15) ≡ q
-          → Flags (suc n) q (flagFor q ∷ replicate n 15)
+          → FlagsAt (suc n) q (flagFor q ∷ replicate n 15)
       at q a b = record { count = ap suc (length-replicate n 15); formed = a ∙ all-new n 15; reached = b }
 
-  goes-on : (fs : List ℕ) → 3 ≤ p → Flags n (p - 3) fs → Flags (suc n) p (0 ∷ fs)
+  goes-on : (fs : List ℕ) → 3 ≤ p → FlagsAt n (p - 3) fs → FlagsAt (suc n) p (0 ∷ fs)
   unfolding wellFormed progress
   goes-on fs h e = record { count = ap suc (e .count); formed = e .formed; reached = omega (arith, e .reached) }
 
-stands : (n p : ℕ) → p ≤ 3 * n → Flags n p (flagsFor n p)
+stands : (n p : ℕ) → p ≤ 3 * n → FlagsAt n p (flagsFor n p)
 unfolding flagsFor wellFormed progress
 stands zero p h = record { count = refl; formed = refl; reached = omega arith }
 stands (suc n) p h = go (decLt p 3) (stands n (p - 3))
   where
-    go : Dec (p < 3) → (p - 3 ≤ 3 * n → Flags n (p - 3) (flagsFor n (p - 3))) → Flags (suc n) p (flagsFor (suc n) p)
+    go : Dec (p < 3) → (p - 3 ≤ 3 * n → FlagsAt n (p - 3) (flagsFor n (p - 3))) → FlagsAt (suc n) p (flagsFor (suc n) p)
     go (yes l) ih = rw (first-sector n p l) (starts n p l)
     go (no l) ih = rw (later-sector n p (omega arith)) (goes-on n p (flagsFor n (p - 3)) (omega arith) (ih (omega arith)))
 
@@ -75,10 +75,10 @@ stands (suc n) p h = go (decLt p 3) (stands n (p - 3))
 
 -- the first sector is finished, or it is the current one and the rest is new
 data Begins (n p x : ℕ) (xs : List ℕ) : Type 0 where
-  finished : x ≡ 0 → 3 ≤ p → Flags n (p - 3) xs → Begins n p x xs
+  finished : x ≡ 0 → 3 ≤ p → FlagsAt n (p - 3) xs → Begins n p x xs
   current : p < 3 → x ≡ flagFor p → xs ≡ replicate n 15 → Begins n p x xs
 
-begins : (n p x : ℕ) (xs : List ℕ) → Flags (suc n) p (x ∷ xs) → Begins n p x xs
+begins : (n p x : ℕ) (xs : List ℕ) → FlagsAt (suc n) p (x ∷ xs) → Begins n p x xs
 unfolding wellFormed progress stage flagFor
 begins n p x xs e = go (eqb x 0) refl (e .formed) (e .reached)
   where
@@ -148,7 +148,7 @@ says-current n p h = by-stage (λ q. Says (suc n) q (flagFor q ∷ replicate n 1
           (c ∙ sym d, rw (d, m));
     }
 
-says : (n p : ℕ) (fs : List ℕ) → Flags n p fs → Says n p fs
+says : (n p : ℕ) (fs : List ℕ) → FlagsAt n p fs → Says n p fs
 unfolding flagsFor all progress
 says zero p [] e =
     let r : p ≡ 0 = sym (e .reached) in
@@ -157,7 +157,7 @@ says zero p (x ∷ xs) e = let c = e .count in absurd (omega arith)
 says (suc n) p [] e = let c = e .count in absurd (omega arith)
 says (suc n) p (x ∷ xs) e = go (begins n p x xs e) (says n (p - 3) xs)
   where
-    go : Begins n p x xs → (Flags n (p - 3) xs → Says n (p - 3) xs) → Says (suc n) p (x ∷ xs)
+    go : Begins n p x xs → (FlagsAt n (p - 3) xs → Says n (p - 3) xs) → Says (suc n) p (x ∷ xs)
     go (finished z h r) ih = rw z (says-finished n p xs h (ih r))
     go (current h z r) ih = rw (z, r) (says-current n p h)
 

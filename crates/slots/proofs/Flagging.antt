@@ -22,7 +22,7 @@ use Rattle.flash.specs.declared.steps.Step.{Step}
 use Rattle.flash.proofs.Areas.{valid}
 use Rattle.flash.proofs.Closing.{sound-is}
 use Rattle.flash.proofs.Writes.{write-one}
-use Rattle.slots.specs.Correspondence.{flagFor, Flags}
+use Rattle.slots.specs.Correspondence.{flagFor, FlagsAt}
 use Rattle.slots.specs.FlagWritten.{Flagged, FlagWritten, NextFlag}
 use Rattle.slots.specs.Flags.{half, withHalf, flagAt, flag, flags, nextFlag, flagStep, nextFlagOf}
 use Rattle.slots.specs.Places.{offset, trailerOf}
@@ -135,7 +135,7 @@ next-small p = go (eqb (p % 3) 0) (eqb (p % 3) 1)
     go false true = omega arith
     go false false = omega arith
 
-module _ (n p : ℕ) (t t′ : List ℕ) (h : p < 3 * n) (hn : n ≤ 64) (e : Flags n p (flags n t)) (c : Flagged t t′ (p / 3) (nextFlag p)) where
+module _ (n p : ℕ) (t t′ : List ℕ) (h : p < 3 * n) (hn : n ≤ 64) (e : FlagsAt n p (flags n t)) (c : Flagged t t′ (p / 3) (nextFlag p)) where
   abbrev i : ℕ
   i = p / 3
 
@@ -158,7 +158,7 @@ module _ (n p : ℕ) (t t′ : List ℕ) (h : p < 3 * n) (hn : n ≤ 64) (e : Fl
       go j r (no q) = getD-flags n t′ j r ∙ c .other j (omega arith) q
           ∙ sym (getD-set-other (flags n t) i j (nextFlag p) 0 q ∙ getD-flags n t j r)
 
-  pub further : Flags n (p + 1) (flags n t′)
+  pub further : FlagsAt n (p + 1) (flags n t′)
   further =
       let s = one-to-one n .says p (flags n t) e .only in
       rw (one-more, s, next-flags n p h) (one-to-one n .stands (p + 1) (omega arith))

@@ -12,7 +12,7 @@ use Rattle.slots.specs.Trailers.{soundWith, renewalOf}
 use Rattle.slots.specs.declared.answers.Progress.{Progress}
 use Rattle.slots.specs.declared.answers.Progress.the-variants as P
 use Rattle.slots.specs.declared.answers.Work.{Work}
-use Rattle.slots.specs.declared.answers.Work.the-variants as R
+use Rattle.slots.specs.declared.answers.Work.the-variants as W
 use Rattle.slots.specs.declared.places.Slot.{Slot}
 use Rattle.slots.specs.declared.places.Slot.the-variants.{Update}
 
@@ -29,10 +29,10 @@ unfoldable pub soundAnswer : Geometry → List ℕ → Slot → ℕ → Bool
 soundAnswer g f s v = accepts g f && soundWith (trailerOf g f s) v
 
 unfoldable pub renewalAnswer : Geometry → List ℕ → Slot → ℕ → Work
-renewalAnswer g f s v = cond (accepts g f) (renewalOf g f s v) (R.Refused (number g f))
+renewalAnswer g f s v = cond (accepts g f) (renewalOf g f s v) (W.Refused (number g f))
 
 unfoldable pub progressAnswer : Geometry → List ℕ → Progress
 progressAnswer g f = cond (accepts g f) (progressOf (flags (g .count) (trailerOf g f Update))) (P.Refused (number g f))
 
 unfoldable pub nextFlagAnswer : Geometry → List ℕ → ℕ → Work
-nextFlagAnswer g f p = cond (accepts g f) (nextFlagOf g f p) (R.Refused (number g f))
+nextFlagAnswer g f p = cond (accepts g f) (nextFlagOf g f p) (W.Refused (number g f))

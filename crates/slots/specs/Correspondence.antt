@@ -17,7 +17,8 @@ unfoldable pub flagsFor : ℕ → ℕ → List ℕ
 flagsFor zero p = []
 flagsFor (suc n) p = cond (ltb p 3) (flagFor p ∷ replicate n new) (updated ∷ flagsFor n (p - 3))
 
-pub record Flags (n p : ℕ) (fs : List ℕ) : Type 0 where
+-- fs are well-formed flags of n sectors, and stand for the progress p
+pub record FlagsAt (n p : ℕ) (fs : List ℕ) : Type 0 where
   pub count : length fs ≡ n
   pub formed : wellFormed fs ≡ true
   pub reached : progress fs ≡ p
@@ -31,5 +32,5 @@ pub record Says (n p : ℕ) (fs : List ℕ) : Type 0 where
   pub current : p < 3 * n → (finishedIn fs ≡ p / 3) × (getD fs (p / 3) 0 ≡ flagFor (p % 3))
 
 pub record OneToOne (n : ℕ) : Type 0 where
-  pub stands : (p : ℕ) → p ≤ 3 * n → Flags n p (flagsFor n p)
-  pub says : (p : ℕ) (fs : List ℕ) → Flags n p fs → Says n p fs
+  pub stands : (p : ℕ) → p ≤ 3 * n → FlagsAt n p (flagsFor n p)
+  pub says : (p : ℕ) (fs : List ℕ) → FlagsAt n p fs → Says n p fs

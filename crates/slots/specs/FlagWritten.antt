@@ -11,7 +11,7 @@ use Rattle.flash.specs.Geometry.{geometryCheck}
 use Rattle.flash.specs.Steps.{applied}
 use Rattle.flash.specs.declared.geometry.Geometry.{Geometry}
 use Rattle.flash.specs.declared.steps.Step.{Step}
-use Rattle.slots.specs.Correspondence.{Flags}
+use Rattle.slots.specs.Correspondence.{FlagsAt}
 use Rattle.slots.specs.Flags.{flag, flags, nextFlag, nextFlagOf}
 use Rattle.slots.specs.Places.{trailerOf}
 use Rattle.slots.specs.Trailers.{state}
@@ -27,8 +27,8 @@ pub record Flagged (t t′ : List ℕ) (i v : ℕ) : Type 0 where
 
 pub record FlagWritten (g : Geometry) (f : List ℕ) (p : ℕ) (s : Step) : Type 0 where
   pub keeps : Flagged (trailerOf g f Update) (trailerOf g (applied g f s) Update) (p / 3) (nextFlag p)
-  pub further : Flags (g .count) p (flags (g .count) (trailerOf g f Update))
-      → Flags (g .count) (p + 1) (flags (g .count) (trailerOf g (applied g f s) Update))
+  pub further : FlagsAt (g .count) p (flags (g .count) (trailerOf g f Update))
+      → FlagsAt (g .count) (p + 1) (flags (g .count) (trailerOf g (applied g f s) Update))
 
 abbrev pub NextFlag : Type 0
 NextFlag = (g : Geometry) (f : List ℕ) (p : ℕ) (s : Step) → geometryCheck g (length f) ≡ 0 → nextFlagOf g f p ≡ Due s → FlagWritten g f p s
