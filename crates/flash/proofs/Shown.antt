@@ -15,7 +15,7 @@ use Rattle.flash.specs.Bytes.{blank, overlay, write}
 use Rattle.flash.specs.Changes.{target, targetSize, Only, bit, Clears, ClearsOnly, Changes}
 use Rattle.flash.specs.Cuts.{Torn, Cut}
 use Rattle.flash.specs.Geometry.{geometryCheck}
-use Rattle.flash.specs.Steps.{accepted, closing, applied, stepCheck}
+use Rattle.flash.specs.Steps.{accepted, closing, applied, stepCheck, flashAfter}
 use Rattle.flash.specs.Valid.{Valid}
 use Rattle.flash.specs.declared.geometry.Geometry.{Geometry}
 use Rattle.flash.specs.declared.steps.Step.{Step}
@@ -40,6 +40,14 @@ carried-out g len s e = go (eqb (geometryCheck g len) 0) refl (accepted g s) ref
     go true p true q r = record { valid = valid g len (eqb-true _ _ p); is-accepted = q }
     go true p false q r = absurd (omega arith)
     go false p a q r = absurd (let h : eqb (geometryCheck g len) 0 ≡ true = rw r refl in let z : _≡_ {A = ℕ} 0 1 = cc in omega arith)
+
+pub step-passes : (g : Geometry) (len : ℕ) (s : Step) → geometryCheck g len ≡ 0 → accepted g s ≡ true → stepCheck g len s ≡ 0
+unfolding stepCheck
+step-passes g len s e a = rw (e, a)
+
+pub flash-after : (g : Geometry) (f : List ℕ) (s : Step) → stepCheck g (length f) s ≡ 0 → flashAfter g f s ≡ applied g f s
+unfolding flashAfter
+flash-after g f s e = rw e
 
 -- ---- only the target
 

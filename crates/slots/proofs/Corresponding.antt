@@ -3,7 +3,7 @@ use Prim.Native.Nat.{ℕ, zero, suc, _+_, _-_, _*_, _/_, _%_, _≤_, _<_}
 use mathlib.Core.Bool.{Bool, true, false, cond, _&&_, _||_}
 use mathlib.Core.List.{List, [], _∷_}
 use mathlib.Core.Logic.{_⊎_, inl, inr}
-use mathlib.Core.Path.{_≡_, refl, sym, ap, ap₂, _∙_}
+use mathlib.Core.Path.{_≡_, refl, sym, ap, _∙_}
 use native.Mathlib.Decide.{decLt, ℕ-discrete}
 use native.Mathlib.Omega.{arith}
 use borrow.Author.Tests.{eqb-true, eq-eqb, ne-eqb, lt-ltb, le-ltb}
@@ -11,23 +11,9 @@ use lib.Dec.{eqb}
 use lib.ListN.{length, set, replicate, length-replicate}
 use Rattle.compare.specs.Compare.{all}
 use Rattle.compare.proofs.Tests.{and-left, and-right, or-cases}
+use Rattle.compare.proofs.Values.{all-replicate, all-only}
 use Rattle.slots.specs.Correspondence.{flagFor, flagsFor, FlagsAt, Says, OneToOne}
 use Rattle.slots.specs.Flags.{wellFormed, stage, progress, finishedIn, nextFlag}
-
--- ---- lists of F
-
-all-new : (n v : ℕ) → all v (replicate n v) ≡ true
-unfolding all
-all-new zero v = refl
-all-new (suc n) v = rw (eq-eqb v v refl) (all-new n v)
-
-new-only : (v : ℕ) (l : List ℕ) → all v l ≡ true → l ≡ replicate (length l) v
-unfolding all
-new-only v [] e = refl
-new-only v (x ∷ l) e =
-    let a : x ≡ v = eqb-true x v (and-left (eqb x v) (all v l) e) in
-    let b : l ≡ replicate (length l) v = new-only v l (and-right (eqb x v) (all v l) e) in
-    ap₂ (λ (y : ℕ) (m : List ℕ). y ∷ m) a b
 
 -- ---- the flags of a progress, one sector at a time
 
@@ -56,7 +42,7 @@ module _ (n : ℕ) (p : ℕ) where
     where
       at : (q : ℕ) → wellFormed (flagFor q ∷ replicate n 15) ≡ all 15 (replicate n 15) → progress (flagFor q ∷ replicate n 15) ≡ q
           → FlagsAt (suc n) q (flagFor q ∷ replicate n 15)
-      at q a b = record { count = ap suc (length-replicate n 15); formed = a ∙ all-new n 15; reached = b }
+      at q a b = record { count = ap suc (length-replicate n 15); formed = a ∙ all-replicate 15 n; reached = b }
 
   goes-on : (fs : List ℕ) → 3 ≤ p → FlagsAt n (p - 3) fs → FlagsAt (suc n) p (0 ∷ fs)
   unfolding wellFormed progress
@@ -86,7 +72,7 @@ begins n p x xs e = go (eqb x 0) refl (e .formed) (e .reached)
     count = let c = e .count in omega arith
 
     new : all 15 xs ≡ true → xs ≡ replicate n 15
-    new a = new-only 15 xs a ∙ ap (λ (k : ℕ). replicate k 15) count
+    new a = all-only 15 xs a ∙ ap (λ (k : ℕ). replicate k 15) count
 
     is : (v : ℕ) → eqb x v ≡ true → (stage v < 3) × (v ≡ flagFor (stage v)) → stage x ≡ p → all 15 xs ≡ true → Begins n p x xs
     is v q d r a =
@@ -132,7 +118,7 @@ says-finished n p xs h s = record {
 
 says-current : (n p : ℕ) → p < 3 → Says (suc n) p (flagFor p ∷ replicate n 15)
 unfolding all finishedIn flagFor
-says-current n p h = by-stage (λ q. Says (suc n) q (flagFor q ∷ replicate n 15)) (at 0 (omega arith) (all-new n 15) refl refl)
+says-current n p h = by-stage (λ q. Says (suc n) q (flagFor q ∷ replicate n 15)) (at 0 (omega arith) (all-replicate 15 n) refl refl)
     (at 1 (omega arith) refl refl refl) (at 2 (omega arith) refl refl refl) p h
   where
     at : (q : ℕ) → q < 3 → all 15 (flagFor q ∷ replicate n 15) ≡ eqb q 0 → all 0 (flagFor q ∷ replicate n 15) ≡ false
@@ -167,7 +153,7 @@ one-to-one n = record { stands = stands n; says = says n }
 -- ---- the next flag
 
 -- new flags, and one flag more
-flags-new : (n : ℕ) → flagsFor n 0 ≡ replicate n 15
+pub flags-new : (n : ℕ) → flagsFor n 0 ≡ replicate n 15
 unfolding flagsFor flagFor
 flags-new zero = refl
 flags-new (suc n) = refl

@@ -24,8 +24,8 @@ use Rattle.flash.proofs.Closing.{sound-is}
 use Rattle.flash.proofs.Writes.{write-one}
 use Rattle.slots.specs.Correspondence.{flagFor, FlagsAt}
 use Rattle.slots.specs.FlagWritten.{Flagged, FlagWritten, NextFlag}
-use Rattle.slots.specs.Flags.{half, withHalf, flagAt, flag, flags, nextFlag, flagStep, nextFlagOf}
-use Rattle.slots.specs.Places.{offset, trailerOf}
+use Rattle.slots.specs.Flags.{half, withHalf, flagAt, flag, flags, nextFlag, flagStep, flagStepOf, nextFlagOf}
+use Rattle.slots.specs.Places.{trailerOf}
 use Rattle.slots.specs.Trailers.{state}
 use Rattle.slots.specs.declared.answers.Work.the-variants.{Due, Finished}
 use Rattle.slots.specs.declared.places.Place.the-variants.{Sector}
@@ -170,7 +170,7 @@ module _ (g : Geometry) (f : List ℕ) (p : ℕ) where
   t = trailerOf g f Update
 
   abbrev due : Step
-  due = flagStep (offset g (Sector Update (g .count))) t p
+  due = flagStepOf g f p
 
   is-due : (s : Step) → nextFlagOf g f p ≡ Due s → (p < 3 * g .count) × (s ≡ due)
   unfolding nextFlagOf
@@ -181,7 +181,7 @@ module _ (g : Geometry) (f : List ℕ) (p : ℕ) where
       go false q r = absurd (let z : _≡_ {A = ℕ} 0 1 = cc in omega arith)
 
   written : Valid g (length f) → p < 3 * g .count → FlagWritten g f p due
-  unfolding flagStep flagAt
+  unfolding flagStep flagStepOf flagAt
   written v h =
       let l : length t ≡ g .size = length-at g f v (Sector Update (g .count)) (omega arith) in
       let k : ℕ = flagAt (length t) (p / 3) in

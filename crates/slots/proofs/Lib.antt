@@ -1,7 +1,13 @@
 pub mod Sectors
 pub mod Reading
 pub mod Renewals
+pub mod Exchanging
 pub mod Corresponding
+pub mod Reached
 pub mod Apart
 pub mod Flagging
+pub mod Renewing
 pub mod Accepting
+pub mod DueAccepted
+pub mod RenewalSteps
+pub mod Answered

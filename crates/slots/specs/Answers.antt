@@ -6,9 +6,10 @@ use lib.Dec.{eqb}
 use lib.ListN.{length}
 use Rattle.flash.specs.Geometry.{geometryCheck}
 use Rattle.flash.specs.declared.geometry.Geometry.{Geometry}
+use Rattle.slots.specs.Exchange.{exchangeOf}
 use Rattle.slots.specs.Flags.{flags, progressOf, nextFlagOf}
 use Rattle.slots.specs.Places.{trailerOf, imageOf}
-use Rattle.slots.specs.Trailers.{soundWith, renewalOf}
+use Rattle.slots.specs.Trailers.{stateAt, soundWith, renewalOf}
 use Rattle.slots.specs.declared.answers.Progress.{Progress}
 use Rattle.slots.specs.declared.answers.Progress.the-variants as P
 use Rattle.slots.specs.declared.answers.Work.{Work}
@@ -28,11 +29,17 @@ imageAnswer g f s = cond (accepts g f) (imageOf g f s) []
 unfoldable pub soundAnswer : Geometry → List ℕ → Slot → ℕ → Bool
 soundAnswer g f s v = accepts g f && soundWith (trailerOf g f s) v
 
+unfoldable pub stateAtAnswer : Geometry → List ℕ → Slot → ℕ
+stateAtAnswer g f s = cond (accepts g f) (stateAt g s) 0
+
 unfoldable pub renewalAnswer : Geometry → List ℕ → Slot → ℕ → Work
 renewalAnswer g f s v = cond (accepts g f) (renewalOf g f s v) (W.Refused (number g f))
 
 unfoldable pub progressAnswer : Geometry → List ℕ → Progress
 progressAnswer g f = cond (accepts g f) (progressOf (flags (g .count) (trailerOf g f Update))) (P.Refused (number g f))
+
+unfoldable pub exchangeAnswer : Geometry → List ℕ → ℕ → Work
+exchangeAnswer g f p = cond (accepts g f) (exchangeOf g f p) (W.Refused (number g f))
 
 unfoldable pub nextFlagAnswer : Geometry → List ℕ → ℕ → Work
 nextFlagAnswer g f p = cond (accepts g f) (nextFlagOf g f p) (W.Refused (number g f))

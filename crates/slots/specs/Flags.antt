@@ -80,10 +80,12 @@ flagStep at t p =
     let k : ℕ = flagAt (length t) (p / 3) in
     Byte (at + k) (withHalf (p / 3) (nextFlag p) (getD t k 0))
 
+unfoldable pub flagStepOf : Geometry → List ℕ → ℕ → Step
+flagStepOf g f p = flagStep (offset g (Sector Update (g .count))) (trailerOf g f Update) p
+
 -- none is due where all sectors are finished
 unfoldable pub nextFlagOf : Geometry → List ℕ → ℕ → Work
-nextFlagOf g f p =
-    cond (ltb p (3 * g .count)) (Due (flagStep (offset g (Sector Update (g .count))) (trailerOf g f Update) p)) Finished
+nextFlagOf g f p = cond (ltb p (3 * g .count)) (Due (flagStepOf g f p)) Finished
 
 -- ---- the code's own: a flag byte lies in the trailer; the finished sectors are those before the first whose flag isn't 0, and the
 -- progress by that flag and whether the rest is new

@@ -1,8 +1,10 @@
 pub mod Places
 pub mod Flags
 pub mod Trailers
+pub mod Exchange
 pub mod Answers
 pub mod Correspondence
 pub mod OnePlace
 pub mod FlagWritten
+pub mod Renewed
 pub mod Accepted

@@ -20,6 +20,9 @@ use Rattle.slots.specs.declared.places.Slot.the-variants.{Boot, Update}
 abbrev pub state : List ℕ → ℕ
 state t = getD t (length t - 5) 0
 
+unfoldable pub stateAt : Geometry → Slot → ℕ
+stateAt g s = offset g (Sector s (g .count)) + (g .size - 5)
+
 unfoldable pub soundWith : List ℕ → ℕ → Bool
 soundWith t v = sound t && eqb (state t) v
 

@@ -1,11 +1,11 @@
 // Document 01, "Trailers and flags": the sector flags in UPDATE's trailer t (F new, 7 swapping, 3 backup,
 // 0 updated), and how far the exchange has come.
 ghost use mathlib.Core.Path.{_≡_};
-ghost use Prim.Native.Nat.{_+_, _^_, _≤_, _<_};
+ghost use Prim.Native.Nat.{_+_, _*_, _^_, _≤_, _<_};
 ghost use lib.ListN.{length, drop};
 ghost use Rattle.compare.specs.Compare.{all};
 ghost use Rattle.flash.specs.Valid.{Valid};
-ghost use Rattle.slots.specs.Flags.{new, half, withHalf, FlagPlace, flag, flags, nextFlag, progressAt, progressOf, flagStep, nextFlagOf};
+ghost use Rattle.slots.specs.Flags.{new, half, withHalf, FlagPlace, flag, flags, nextFlag, progressAt, progressOf, flagStep, flagStepOf, nextFlagOf};
 use crate::answers::Progress;
 use crate::answers::Work;
 use crate::places::Place;
@@ -110,13 +110,22 @@ fn flag_after(reached: usize) -> u8
 }
 
 // The step that writes it in the trailer t at an offset.
-fn flag_step(t: &[u8], at: usize, reached: usize) -> Step
+fn flag_step_at(t: &[u8], at: usize, reached: usize) -> Step
     requires { ⌜ (256 ≤ length (now t)) × (reached < 192) × (at + length (now t) < 2 ^ 64) ⌝ }
     ensures { λ r. ⌜ r ≡ flagStep at (now (t .entry)) reached ⌝ }
 {
     let i = reached / 3;
     let k = flag_place(t.len(), i);
     Step::Byte(at + k, with_half(i, flag_after(reached), t[k]))
+}
+
+pub(crate) fn flag_step(flash: &[u8], g: Geometry, reached: usize) -> Step
+    requires { ⌜ Valid g (length (now flash)) × (reached < 3 * g .count) ⌝ }
+    ensures { λ r. ⌜ r ≡ flagStepOf g (now (flash .entry)) reached ⌝ }
+{
+    let t = trailer(flash, g, Slot::Update);
+    let at = offset(g, Place::Sector(Slot::Update, g.count));
+    flag_step_at(t, at, reached)
 }
 
 pub(crate) fn next_flag(flash: &[u8], g: Geometry, reached: usize) -> Work
@@ -126,7 +135,5 @@ pub(crate) fn next_flag(flash: &[u8], g: Geometry, reached: usize) -> Work
     if 3 * g.count <= reached {
         return Work::Finished;
     }
-    let t = trailer(flash, g, Slot::Update);
-    let at = offset(g, Place::Sector(Slot::Update, g.count));
-    Work::Due(flag_step(t, at, reached))
+    Work::Due(flag_step(flash, g, reached))
 }

@@ -1,12 +1,13 @@
 // What the loader reads of a flash: its slots' images and trailers, and the flags in UPDATE's trailer.
 // Every public function is total: the geometry's numbers 1 to 4 first, then what document 01 says.
 mod answers;
+mod copies;
 mod flags;
 mod places;
 mod trailers;
 
 ghost use mathlib.Core.Path.{_≡_};
-ghost use Rattle.slots.specs.Answers.{imageAnswer, soundAnswer, renewalAnswer, progressAnswer, nextFlagAnswer};
+ghost use Rattle.slots.specs.Answers.{imageAnswer, soundAnswer, stateAtAnswer, renewalAnswer, progressAnswer, exchangeAnswer, nextFlagAnswer};
 pub use answers::Progress;
 pub use answers::Work;
 use flash::Geometry;
@@ -32,6 +33,16 @@ pub fn is_sound_with(flash: &[u8], g: Geometry, slot: Slot, state: u8) -> bool
         return false;
     }
     trailers::is_sound_with(places::trailer(flash, g, slot), state)
+}
+
+// Where a slot's state byte lies, or 0 where the geometry is refused.
+pub fn state_at(flash: &[u8], g: Geometry, slot: Slot) -> usize
+    ensures { λ r. ⌜ r ≡ stateAtAnswer g (now (flash .entry)) slot ⌝ }
+{
+    if check_geometry(g, flash.len()) != 0 {
+        return 0;
+    }
+    trailers::state_at(g, flash.len(), slot)
 }
 
 // The next step that renews a slot's trailer to a state.
@@ -66,4 +77,16 @@ pub fn next_flag(flash: &[u8], g: Geometry, reached: usize) -> Work
         return Work::Refused(number);
     }
     flags::next_flag(flash, g, reached)
+}
+
+// The next step of the exchange at a progress: a copy with its erase before and its flag after, or
+// finished where all flags are 0.
+pub fn exchange(flash: &[u8], g: Geometry, reached: usize) -> Work
+    ensures { λ r. ⌜ r ≡ exchangeAnswer g (now (flash .entry)) reached ⌝ }
+{
+    let number = check_geometry(g, flash.len());
+    if number != 0 {
+        return Work::Refused(number);
+    }
+    copies::exchange(flash, g, reached)
 }

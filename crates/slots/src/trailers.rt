@@ -3,7 +3,7 @@ ghost use mathlib.Core.Path.{_≡_};
 ghost use Prim.Native.Nat.{_+_, _^_, _≤_, _<_};
 ghost use lib.ListN.{length};
 ghost use Rattle.flash.specs.Valid.{Valid};
-ghost use Rattle.slots.specs.Trailers.{soundWith, allButState, flagCount, renewedTo, renew, renewalOf};
+ghost use Rattle.slots.specs.Trailers.{stateAt, soundWith, allButState, flagCount, renewedTo, renew, renewalOf};
 use crate::answers::Work;
 use crate::flags::is_rest;
 use crate::places::Place;
@@ -21,6 +21,14 @@ pub(crate) fn is_sound_with(t: &[u8], state: u8) -> bool
 {
     let end = t.len() - 4;
     same(&t[end..], b"BOOT") & (t[end - 1] == state)
+}
+
+// Where a slot's state byte lies in a flash of len bytes.
+pub(crate) fn state_at(g: Geometry, len: usize, slot: Slot) -> usize
+    requires { ⌜ Valid g len ⌝ }
+    ensures { λ r. ⌜ r ≡ stateAt g slot ⌝ }
+{
+    offset(g, Place::Sector(slot, g.count)) + (g.size - 5)
 }
 
 // Whether a trailer is all FF except the state byte, which is state.
