@@ -1,0 +1,4 @@
+pub mod ByProgress
+pub mod Accepting
+pub mod Triggering
+pub mod Unverified

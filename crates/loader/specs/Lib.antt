@@ -1,0 +1,7 @@
+pub mod Checks
+pub mod States
+pub mod Decisions
+pub mod Requests
+pub mod Accepted
+pub mod Triggered
+pub mod MidSwap
