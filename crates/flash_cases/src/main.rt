@@ -14,8 +14,8 @@ use record::HEAD;
 use record::least;
 use records::byte_at;
 use records::part;
+use show_steps::work;
 use slots::Progress;
-use slots::Work;
 
 // G: whether the geometry is accepted.
 fn check_geometry(g: Geometry, len: usize) {
@@ -43,17 +43,6 @@ fn apply_op(flash: &mut [u8], g: Geometry, head: &[u8]) {
         2 => apply_step(flash, g, Step::Byte(at, record::value(head))),
         3 => apply_step(flash, g, Step::Mark(at)),
         _ => {}
-    }
-}
-
-// R, F: the step that is due.
-fn due(w: Work) {
-    match w {
-        Work::Due(step) => show::step(step),
-        Work::Finished => {
-            io::write_all(STDOUT_FILENO, b"FINISHED\n");
-        }
-        Work::Refused(number) => show::refusal(number),
     }
 }
 
@@ -87,9 +76,9 @@ fn answer(flash: &mut [u8], head: &[u8]) {
     let value = record::value(head);
     match byte_at(head, 0) {
         b'S' => apply_op(flash, g, head),
-        b'R' => due(slots::renewal(flash, g, slot, value)),
+        b'R' => work(slots::renewal(flash, g, slot, value)),
         b'P' => progress(slots::progress(flash, g)),
-        b'F' => due(slots::next_flag(flash, g, record::at(head))),
+        b'F' => work(slots::next_flag(flash, g, record::at(head))),
         b'T' => sound(slots::is_sound_with(flash, g, slot, value)),
         b'I' => image(slots::image(flash, g, slot)),
         _ => {}

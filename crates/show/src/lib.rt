@@ -1,6 +1,5 @@
 // What the programs print of an answer, each but `field` with a line end. No contract can say what is
 // written, so these have none beyond safety; stored output and tests/command hold them.
-use flash::Step;
 use libc::STDOUT_FILENO;
 use sha256::Answer;
 
@@ -30,30 +29,6 @@ pub fn decimal(n: u64) {
 pub fn field(n: u64) {
     io::print_decimal(STDOUT_FILENO, n);
     io::write_all(STDOUT_FILENO, b" ");
-}
-
-// A step as document 01's simulator prints it: a letter and numbers.
-pub fn step(s: Step) {
-    match s {
-        Step::Erase(at) => {
-            io::write_all(STDOUT_FILENO, b"E ");
-            decimal(at as u64);
-        }
-        Step::Copy(from, to) => {
-            io::write_all(STDOUT_FILENO, b"C ");
-            field(from as u64);
-            decimal(to as u64);
-        }
-        Step::Byte(at, value) => {
-            io::write_all(STDOUT_FILENO, b"B ");
-            field(at as u64);
-            decimal(value as u64);
-        }
-        Step::Mark(at) => {
-            io::write_all(STDOUT_FILENO, b"M ");
-            decimal(at as u64);
-        }
-    }
 }
 
 // Two hexadecimal digits for each byte.
