@@ -1,7 +1,7 @@
 /* Frondicare's loader, callable from C. Link libfrondicare.a (rt staticlib frondicare).
  *
- * Every entry is proved against its contract in crates/frondicare/src/lib.rt. It returns, reads and
- * writes only what it was lent, and answers 0 or a number of document 01 ("Numbers given back"). A
+ * Every entry is proved against its contract in crates/frondicare/src. It returns, reads and writes
+ * only what it was lent, and answers numbers of document 01 ("Numbers given back"), 0 for none. A
  * refusal writes nothing.
  *
  * What a caller owes: a pointer and its length describe memory that can be read; a hint is 32 bytes
@@ -13,8 +13,29 @@
  *     frondicare_verify(image, image_len, signature_ok) == 0
  * To make one: frondicare_digest_to_sign, sign the digest, then frondicare_write_header with the
  * same arguments; the image is the 256 bytes of the buffer, then the firmware.
- * To write the flash: frondicare_apply_step, one step at a time. An offset counts from the start of
- * the flash. */
+ *
+ * To trigger an update: write the image to UPDATE with the flash's own driver. Then ask
+ * frondicare_trigger and carry out the step it answers, until it answers FRONDICARE_FINISHED.
+ * At power-up: ask for the next step and carry it out, until there is none.
+ *     do {
+ *         a = frondicare_next_step(flash, flash_len, .., boot_signed, update_signed);
+ *         if (a.kind == FRONDICARE_STEP || a.kind == FRONDICARE_LAST_STEP)
+ *             frondicare_apply_step(flash, flash_len, .., a.op, a.at, a.to, a.value);
+ *     } while (a.kind == FRONDICARE_STEP);
+ * Then start the image in BOOT, unless a.kind is FRONDICARE_REFUSED. After a last step start it
+ * without asking again: it is on trial now, and asked again the loader would begin the return.
+ * To confirm: the image on trial asks frondicare_confirm and carries out the step. Otherwise the next
+ * power-up returns to the image before it, where that one passes.
+ *
+ * boot_signed and update_signed are what the caller's signature checker says of the image in BOOT and
+ * of the one in UPDATE: of the slots as they are, but in mid-swap of the slots before that swap. It is
+ * mid-swap while UPDATE is sound with 70 and its flags are neither all F nor all 0;
+ * frondicare_next_step doesn't look at these answers then. So a caller checks both slots before each
+ * call, or keeps the answers and exchanges them when a step makes the last flag 0.
+ *
+ * A slot is sound with a state when it ends in that byte and 42 4F 4F 54. States are hexadecimal: 70
+ * updating, 30 spent (UPDATE); 10 on trial, 00 confirmed (BOOT). UPDATE's flags are before its state.
+ * An offset counts from the start of the flash. */
 #ifndef FRONDICARE_H
 #define FRONDICARE_H
 
@@ -48,6 +69,25 @@ enum {
     FRONDICARE_BYTE = 2,
     FRONDICARE_MARK = 3
 };
+
+/* The kinds of an answer. */
+enum {
+    FRONDICARE_STEP = 0,
+    FRONDICARE_LAST_STEP = 1, /* the boot follows at once */
+    FRONDICARE_BOOT = 2,
+    FRONDICARE_REFUSED = 3,
+    FRONDICARE_FINISHED = 4 /* of trigger and confirm: nothing is left to be done */
+};
+
+/* What to do next. Fields that a kind doesn't use are 0. */
+typedef struct {
+    uint32_t kind;   /* one of these */
+    uint32_t number; /* boot: why UPDATE was passed over, 0 for none; refused: why */
+    uint32_t op;     /* step: erase, copy, byte or mark */
+    uint32_t value;  /* byte: its value */
+    size_t at;       /* erase, byte, mark: the offset; copy: from */
+    size_t to;       /* copy: to */
+} frondicare_answer;
 
 /* SHA-256 (FIPS 180-4) of a message. 12: longer than 4,294,967,295 bytes. */
 uint32_t frondicare_digest(const uint8_t *message, size_t message_len, uint8_t digest[32]);
@@ -106,6 +146,29 @@ uint32_t frondicare_apply_step(uint8_t *flash, size_t flash_len,
                                size_t sector_size, size_t sector_count,
                                size_t boot, size_t update, size_t swap,
                                uint32_t op, size_t at, size_t to, uint32_t value);
+
+/* The next step of an update or of a return, or a boot, or a refusal. The flash is only read.
+ * Boot: 0: no update or return was considered; 11 to 18: the image in UPDATE doesn't pass, as
+ * frondicare_verify says it; 19: its version is not greater than that of the image in BOOT.
+ * Refused: 1 to 4 as above; 20: UPDATE's flags are ill-formed; 11 to 18: nothing is to be swapped, and
+ * the image in BOOT doesn't pass. */
+frondicare_answer frondicare_next_step(const uint8_t *flash, size_t flash_len,
+                                       size_t sector_size, size_t sector_count,
+                                       size_t boot, size_t update, size_t swap,
+                                       bool boot_signed, bool update_signed);
+
+/* The next step that triggers an update to the image in UPDATE, at most three in all, or finished. The
+ * image is not verified yet. Refused: 1 to 4 as above; 22: UPDATE is sound with 70 and some flag isn't
+ * F; 21: BOOT is sound with 10. */
+frondicare_answer frondicare_trigger(const uint8_t *flash, size_t flash_len,
+                                     size_t sector_size, size_t sector_count,
+                                     size_t boot, size_t update, size_t swap);
+
+/* The step that confirms the image in BOOT, which is on trial, or finished where it is confirmed.
+ * Refused: 1 to 4 and 22 as above; 23: nothing is on trial. */
+frondicare_answer frondicare_confirm(const uint8_t *flash, size_t flash_len,
+                                     size_t sector_size, size_t sector_count,
+                                     size_t boot, size_t update, size_t swap);
 
 #ifdef __cplusplus
 }

@@ -1,6 +1,7 @@
 //! The library's calls against plain Rust ones: the same bytes, both optimized, in one process, turn about, the median
 //! of 21 runs each. No buffer is cleared between runs. Prints the times of a call and their ratio.
 mod compare;
+mod loader_calls;
 
 use compare::compare;
 use frondicare_tests::flash::{self, Geometry, Step};
@@ -21,10 +22,18 @@ fn parts(firmware: &[u8]) -> Parts<'_> {
     Parts { fields: FIELDS, firmware, custom: &[], hint: &HINT }
 }
 
-fn plain_header(firmware: &[u8]) -> (u32, Vec<u8>) {
+fn plain_header(parts: &Parts) -> (u32, Vec<u8>) {
     let mut buffer = vec![PAINT; header::SIZE];
-    let number = writer::write_header(&mut buffer, &parts(firmware), &SIGNATURE).err().unwrap_or(0);
+    let number = writer::write_header(&mut buffer, parts, &SIGNATURE).err().unwrap_or(0);
     (number, buffer)
+}
+
+/// An image that passes.
+fn image(version: u32, firmware: &[u8]) -> Vec<u8> {
+    let parts = Parts { fields: Fields { version, ..FIELDS }, ..parts(firmware) };
+    let image = [plain_header(&parts).1, firmware.to_vec()].concat();
+    assert_eq!(header::verify(&image, true), Ok(()));
+    image
 }
 
 fn digests(image: &[u8]) {
@@ -37,8 +46,7 @@ fn digests(image: &[u8]) {
 }
 
 fn verdict(name: &str, calls: usize, firmware: &[u8]) {
-    let image = [plain_header(firmware).1, firmware.to_vec()].concat();
-    assert_eq!(header::verify(&image, true), Ok(()));
+    let image = image(FIELDS.version, firmware);
     compare(
         name,
         calls,
@@ -72,9 +80,10 @@ fn main() {
     compare(
         "write header, 256 KiB of firmware",
         1,
-        || plain_header(black_box(&firmware)),
+        || plain_header(&parts(black_box(&firmware))),
         || frondicare::write_header(header::SIZE, &parts(black_box(&firmware)), &SIGNATURE),
     );
     steps(4096, 20_000);
     steps(256, 200_000);
+    loader_calls::all();
 }

@@ -1,13 +1,8 @@
 /* The C header as a loader uses it: writes a header, verifies the image, finds its tags, exchanges a sector of
- * two slots, and sees that a refused call leaves its buffer and the flash. Says which check failed. */
-#include "frondicare.h"
-#include <stdio.h>
-#include <string.h>
+ * two slots, and sees that a refused call leaves its buffer and the flash. */
+#include "check.h"
 
 enum { HEADER = 256, FIRMWARE = 1000, PAINT = 0xa5 };
-/* Document 01's geometry G, and where its trailers have their states. */
-enum { SECTOR = 256, SECTORS = 2, BOOT = 0, UPDATE = 768, SWAP = 1536, FLASH = 1792 };
-enum { BOOT_STATE = 763, UPDATE_FLAGS = 1530, UPDATE_STATE = 1531 };
 
 static const frondicare_fields fields = { 0x01020304, 0x1112131415161718, 0x2122 };
 static const uint8_t custom[] = { 0x42, 0x00, 0x03, 0x00, 'a', 'b', 'c' };
@@ -15,16 +10,6 @@ static const uint8_t padding[] = { 0xff };
 static uint8_t image[HEADER + FIRMWARE];
 static uint8_t hint[32], signature[64];
 static uint8_t flash[FLASH];
-static int checks, failures;
-
-static void check(bool right, const char *what)
-{
-    checks++;
-    if (!right) {
-        failures++;
-        printf("FAILED %s\n", what);
-    }
-}
 
 static uint32_t write_header(uint8_t *buffer, size_t length, const uint8_t *run, size_t run_length)
 {
@@ -155,6 +140,5 @@ int main(void)
     exchanged();
     refused_geometry();
     refused_step();
-    printf("C header: %d checks, %d failed\n", checks, failures);
-    return failures != 0;
+    return report("C header");
 }

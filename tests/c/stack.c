@@ -5,16 +5,18 @@
 #include <string.h>
 #include <ucontext.h>
 
-enum { ROOM = 64 * 1024, PAINT = 0xa5, MOST_DIGEST = 768, MOST = 1152 };
+enum { ROOM = 64 * 1024, PAINT = 0xa5, MOST_DIGEST = 768, MOST = 1152, MOST_NEXT_STEP = 1280 };
+/* One image sector to a slot. */
+enum { SECTOR = 4096, BOOT = 0, UPDATE = 2 * SECTOR, SWAP = 4 * SECTOR, FLASH = 5 * SECTOR };
 
 static const uint8_t custom[10] = { 0x42, 0, 1, 0, 'x', 0x43, 0, 1, 0, 'y' };
-static const frondicare_fields fields = { 1, 2, 3 };
+static const frondicare_fields fields = { 1, 2, 3 }, newer = { 2, 2, 3 };
 
 static uint8_t stack[ROOM] __attribute__((aligned(64)));
 static uint8_t image[256 + 1000];
 static uint8_t *const message = image + 256;
 static uint8_t digest[32];
-static uint8_t flash[5 * 4096];
+static uint8_t flash[FLASH];
 static uint32_t number;
 static ucontext_t main_context, call_context;
 
@@ -38,18 +40,45 @@ static void write_header(void)
 
 static void check_geometry(void)
 {
-    number = frondicare_check_geometry(sizeof flash, 4096, 1, 0, 2 * 4096, 4 * 4096);
+    number = frondicare_check_geometry(FLASH, SECTOR, 1, BOOT, UPDATE, SWAP);
 }
 
 static void apply(uint32_t op, size_t at)
 {
-    number = frondicare_apply_step(flash, sizeof flash, 4096, 1, 0, 2 * 4096, 4 * 4096, op, at, 4 * 4096, 0);
+    number = frondicare_apply_step(flash, FLASH, SECTOR, 1, BOOT, UPDATE, SWAP, op, at, SWAP, 0);
 }
 
-static void erase(void) { apply(FRONDICARE_ERASE, 0); }
-static void copy(void) { apply(FRONDICARE_COPY, 0); }
-static void byte(void) { apply(FRONDICARE_BYTE, 4096); }
-static void mark(void) { apply(FRONDICARE_MARK, 2 * 4096 - 4); }
+static void erase(void) { apply(FRONDICARE_ERASE, BOOT); }
+static void copy(void) { apply(FRONDICARE_COPY, BOOT); }
+static void byte(void) { apply(FRONDICARE_BYTE, BOOT + SECTOR); }
+static void mark(void) { apply(FRONDICARE_MARK, UPDATE - 4); }
+
+/* 0 where the kind is this one. */
+static void next_step(uint32_t kind)
+{
+    number = frondicare_next_step(flash, FLASH, SECTOR, 1, BOOT, UPDATE, SWAP, true, true).kind ^ kind;
+}
+
+static void step(void) { next_step(FRONDICARE_STEP); }
+static void boot(void) { next_step(FRONDICARE_BOOT); }
+
+/* A step's kind is 0. */
+static void trigger(void) { number = frondicare_trigger(flash, FLASH, SECTOR, 1, BOOT, UPDATE, SWAP).kind; }
+static void confirm(void) { number = frondicare_confirm(flash, FLASH, SECTOR, 1, BOOT, UPDATE, SWAP).kind; }
+
+static void close_slot(size_t trailer, const char *state_and_mark)
+{
+    memcpy(flash + trailer + SECTOR - 5, state_and_mark, 5);
+}
+
+/* Two images, the one in UPDATE with the greater version. */
+static void fill_slots(void)
+{
+    memset(flash, 0xff, FLASH);
+    memcpy(flash + BOOT, image, sizeof image);
+    memcpy(flash + UPDATE + 256, message, 1000);
+    frondicare_write_header(flash + UPDATE, 256, newer, message, 1000, custom, sizeof custom, message, message);
+}
 
 /* Bytes of the painted stack that a call changed, from its top. */
 static size_t used_by(void (*call)(void))
@@ -102,5 +131,15 @@ int main(void)
     failed |= report("frondicare_apply_step, copy", copy, base, MOST);
     failed |= report("frondicare_apply_step, byte", byte, base, MOST);
     failed |= report("frondicare_apply_step, mark", mark, base, MOST);
+    fill_slots();
+    failed |= report("frondicare_next_step, boot", boot, base, MOST_NEXT_STEP);
+    failed |= report("frondicare_trigger", trigger, base, MOST);
+    close_slot(UPDATE + SECTOR, "\x70" "BOOT");
+    failed |= report("frondicare_next_step, update", step, base, MOST_NEXT_STEP);
+    flash[UPDATE + 2 * SECTOR - 6] = 0xf7;
+    failed |= report("frondicare_next_step, mid-swap", step, base, MOST_NEXT_STEP);
+    close_slot(BOOT + SECTOR, "\x10" "BOOT");
+    flash[UPDATE + 2 * SECTOR - 6] = 0xff;
+    failed |= report("frondicare_confirm", confirm, base, MOST);
     return failed;
 }

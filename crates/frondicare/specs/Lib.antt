@@ -1,3 +1,4 @@
 pub mod Digests
 pub mod Tags
 pub mod Steps
+pub mod Answers

@@ -14,7 +14,13 @@ enum OptionalStep {
     None,
 }
 
-fn geometry_of(size: usize, count: usize, boot: usize, update: usize, swap: usize) -> Geometry
+pub(crate) fn geometry_of(
+    size: usize,
+    count: usize,
+    boot: usize,
+    update: usize,
+    swap: usize,
+) -> Geometry
     ensures { λ r. ⌜ r ≡ geometryOf size count boot update swap ⌝ }
 {
     Geometry {

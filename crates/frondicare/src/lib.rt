@@ -1,6 +1,7 @@
 // The C library: entries on numbers and byte slices only, which decide nothing themselves.
 // include/frondicare.h declares them for C.
 mod flash_entries;
+mod loader_entries;
 
 ghost use mathlib.Core.Path.{_≡_};
 ghost use mathlib.Core.List.{_++_};

@@ -36,7 +36,7 @@ pub struct Areas {
     pub sector_count: usize,
     boot: Range<usize>,
     update: Range<usize>,
-    swap: Range<usize>,
+    pub swap: Range<usize>,
 }
 
 fn overlap(a: &Range<usize>, b: &Range<usize>) -> bool {

@@ -1,7 +1,10 @@
-//! A flash on which the library and the plain implementation carry out the same steps.
+//! A flash on which the library and the plain implementation decide the same and carry out the same steps.
+use crate::answers::{Answer, RawAnswer};
+use crate::decisions::{self, Signed};
 use crate::flash::{self, Geometry};
 use crate::frondicare::{self, PAINT};
 use crate::raw_step::RawStep;
+use crate::{loader, requests};
 
 /// Bytes before and after a flash that are not lent: more than a sector.
 const GUARD: usize = 4096 + 64;
@@ -50,5 +53,29 @@ impl Guarded {
             panic!("{geometry:?}, flash of {}, {step:?}: {is:02x} at {place}, not {should:02x}", self.len);
         }
         answer
+    }
+
+    /// The plain answer. The library's is the same in every field, and leaves every byte as it is.
+    fn same_answer(&self, geometry: &Geometry, plain: Answer, proved: impl Fn(&[u8]) -> RawAnswer) -> Answer {
+        let before = self.bytes.clone();
+        let answer = proved(self.flash());
+        assert_eq!(answer, plain.into(), "{geometry:?}, flash of {}, {plain:?}", self.len);
+        assert!(self.bytes == before, "{geometry:?}, flash of {}, {plain:?}: written", self.len);
+        plain
+    }
+
+    pub fn next_step(&self, geometry: &Geometry, signed: Signed) -> Answer {
+        let plain = decisions::next_step(self.flash(), geometry, signed);
+        self.same_answer(geometry, plain, |flash| loader::next_step(flash, geometry, signed))
+    }
+
+    pub fn trigger(&self, geometry: &Geometry) -> Answer {
+        let plain = requests::trigger(self.flash(), geometry);
+        self.same_answer(geometry, plain, |flash| loader::trigger(flash, geometry))
+    }
+
+    pub fn confirm(&self, geometry: &Geometry) -> Answer {
+        let plain = requests::confirm(self.flash(), geometry);
+        self.same_answer(geometry, plain, |flash| loader::confirm(flash, geometry))
     }
 }

@@ -42,17 +42,22 @@ pub fn custom_run(random: &mut Random, most: usize) -> Vec<u8> {
     run
 }
 
-/// An image as the writer makes it, at times with bytes after the firmware.
-pub fn written(random: &mut Random) -> Vec<u8> {
-    let fields = fields(random);
+/// An image as the writer makes it.
+pub fn with(random: &mut Random, fields: Fields, firmware_len: usize) -> Vec<u8> {
     let custom = custom_run(random, writer::MOST_CUSTOM);
     let (hint, signature) = (random.array(), random.array());
-    let n = 1 + random.up_to(300);
-    let firmware = random.bytes(n);
+    let firmware = random.bytes(firmware_len);
     let mut image = vec![0; SIZE];
     let parts = Parts { fields, firmware: &firmware, custom: &custom, hint: &hint };
     writer::write_header(&mut image, &parts, &signature).expect("the parts are well formed");
     image.extend(firmware);
+    image
+}
+
+/// The same with any fields, at times with bytes after the firmware.
+pub fn written(random: &mut Random) -> Vec<u8> {
+    let (fields, n) = (fields(random), 1 + random.up_to(300));
+    let mut image = with(random, fields, n);
     let after = random.up_to(3) * random.up_to(20);
     image.extend(random.bytes(after));
     image

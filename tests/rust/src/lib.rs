@@ -1,14 +1,21 @@
 //! The static library seen from Rust, an independent implementation to hold it to, and random input for both.
+pub mod answers;
+pub mod boards;
 pub mod damage;
+pub mod decisions;
 pub mod flash;
 pub mod frondicare;
 pub mod guarded;
 pub mod header;
 pub mod images;
 pub mod layouts;
+pub mod loader;
+pub mod paper;
+pub mod powered;
 pub mod random;
 pub mod raw_step;
 pub mod records;
+pub mod requests;
 pub mod seen;
 pub mod sha256;
 pub mod trailers;

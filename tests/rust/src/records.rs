@@ -27,7 +27,7 @@ pub fn text_or_refusal<T>(answer: Result<T, u32>, text: impl Fn(T) -> String) ->
 }
 
 /// Each record's answer is its line of the output, and there are at least so many.
-pub fn same_lines(input: &'static [u8], output: &str, answer: impl Fn(&mut Input) -> String, least: usize) {
+pub fn same_lines(input: &'static [u8], output: &str, mut answer: impl FnMut(&mut Input) -> String, least: usize) {
     let mut input = Input(input);
     let mut lines = output.lines();
     let mut count = 0;

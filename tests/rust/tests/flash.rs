@@ -3,11 +3,11 @@ use frondicare_tests::flash::{Geometry, Step};
 use frondicare_tests::frondicare;
 use frondicare_tests::guarded::Guarded;
 use frondicare_tests::layouts::{self, SECTOR_SIZES};
+use frondicare_tests::paper::{EXCHANGE, G};
 use frondicare_tests::random::Random;
 use frondicare_tests::raw_step::RawStep;
 use frondicare_tests::seen::Seen;
 
-const G: Geometry = Geometry { sector_size: 256, sector_count: 2, boot: 0, update: 768, swap: 1536 };
 /// A free sector before and after every area.
 const GAPS: Geometry = Geometry { sector_size: 256, sector_count: 1, boot: 256, update: 1024, swap: 1792 };
 const GAPS_LEN: usize = 2304;
@@ -111,10 +111,6 @@ fn every_bit() {
     }
 }
 
-/// The 20 steps of document 01's exchange, as its simulator prints them.
-const EXCHANGE: &str = "C 768 1536; B 1530 247; E 768; C 0 768; B 1530 243; E 0; C 1536 0; B 1530 240; E 1536; \
-    C 1024 1536; B 1530 112; E 1024; C 256 1024; B 1530 48; E 256; C 1536 256; B 1530 0; B 763 16; M 764; B 1531 48";
-
 fn parsed(text: &str) -> Step {
     let mut words = text.split(' ');
     let letter = words.next().unwrap();
@@ -128,7 +124,7 @@ fn parsed(text: &str) -> Step {
     }
 }
 
-/// Carried out on two images, they exchange them, close BOOT's trailer on trial and leave UPDATE spent.
+/// The paper's steps, carried out on two images, exchange them, close BOOT's trailer on trial and leave UPDATE spent.
 #[test]
 fn exchange() {
     let mut random = Random::new();

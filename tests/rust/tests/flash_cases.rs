@@ -1,5 +1,6 @@
 //! The plain flash against the cases that tests/vectors/flash.py made and answered, so that the two independent
 //! implementations confirm each other. Nothing here calls the library.
+use frondicare_tests::answers::step_text;
 use frondicare_tests::flash::{self, Geometry, Slot, Step};
 use frondicare_tests::records::{same_lines, text_or_refusal, Input};
 use frondicare_tests::{hex, sha256, trailers};
@@ -51,14 +52,8 @@ fn case(input: &mut Input, command: u8) -> Case {
     Case { kind, value, geometry, flash_len, at, to, flash }
 }
 
-fn step_text(step: Option<Step>) -> String {
-    match step {
-        None => "FINISHED".to_string(),
-        Some(Step::Erase { at }) => format!("E {at}"),
-        Some(Step::Copy { from, to }) => format!("C {from} {to}"),
-        Some(Step::Byte { at, value }) => format!("B {at} {value}"),
-        Some(Step::Mark { at }) => format!("M {at}"),
-    }
+fn finished_or(step: Option<Step>) -> String {
+    step.map_or("FINISHED".to_string(), step_text)
 }
 
 fn applied(mut case: Case) -> String {
@@ -76,9 +71,9 @@ fn answer(input: &mut Input) -> String {
     let text = match command {
         b'G' => text_or_refusal(areas, |_| "OK".to_string()),
         b'S' => applied(case),
-        b'R' => text_or_refusal(areas, |areas| step_text(trailers::renewal(&areas, flash, case.slot(), case.value))),
+        b'R' => text_or_refusal(areas, |areas| finished_or(trailers::renewal(&areas, flash, case.slot(), case.value))),
         b'P' => text_or_refusal(areas.and_then(|areas| trailers::progress(&areas, flash)), |n| n.to_string()),
-        b'F' => text_or_refusal(areas, |areas| step_text(trailers::flag_step(&areas, flash, case.at))),
+        b'F' => text_or_refusal(areas, |areas| finished_or(trailers::flag_step(&areas, flash, case.at))),
         b'T' => {
             let sound = areas.is_ok_and(|areas| trailers::sound_with(&areas, flash, case.slot(), case.value));
             if sound { "YES" } else { "NO" }.to_string()

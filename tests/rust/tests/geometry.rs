@@ -2,10 +2,9 @@
 use frondicare_tests::flash::Geometry;
 use frondicare_tests::frondicare;
 use frondicare_tests::layouts::{self, SECTOR_SIZES};
+use frondicare_tests::paper::G;
 use frondicare_tests::random::Random;
 use frondicare_tests::seen::Seen;
-
-const G: Geometry = Geometry { sector_size: 256, sector_count: 2, boot: 0, update: 768, swap: 1536 };
 
 fn same_number(flash_len: usize, geometry: &Geometry) -> u32 {
     let expected = geometry.areas(flash_len).err().unwrap_or(0);
