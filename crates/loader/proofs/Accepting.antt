@@ -28,7 +28,7 @@ use Rattle.slots.proofs.DueAccepted.{DueAccepted, state-accepted, renewal-accep
 use Rattle.loader.specs.Accepted.{StepsAccepted}
 use Rattle.loader.specs.Checks.{Checks}
 use Rattle.loader.specs.Decisions.{orElse, bootOr, goBack, spend, finish, swapping, decision, nextStep}
-use Rattle.loader.specs.Requests.{midway, triggering, confirming, triggerAnswer, confirmAnswer}
+use Rattle.loader.specs.Requests.{swapBegun, triggering, confirming, triggerAnswer, confirmAnswer}
 use Rattle.loader.specs.States.{updating, testing, success, staged, onTrial}
 use Rattle.loader.specs.declared.answers.Answer.the-variants as A
 use Rattle.loader.proofs.ByProgress.{why, at-refusal, at-progress}
@@ -88,12 +88,12 @@ module _ (k : Checks) (g : Geometry) (f : List ℕ) (ok : geometryCheck g (lengt
 module _ (g : Geometry) (f : List ℕ) (v : Valid g (length f)) where
   triggers : DueAccepted g (triggering g f)
   unfolding triggering
-  triggers = by-test (DueAccepted g) (midway g f) (λ _. tt)
+  triggers = by-test (DueAccepted g) (swapBegun g f) (λ _. tt)
       (λ _. by-test (DueAccepted g) (onTrial g f) (λ _. tt) (λ _. renewal-accepted g f v Update updating))
 
   confirms : DueAccepted g (confirming g f)
   unfolding confirming
-  confirms = by-test (DueAccepted g) (midway g f) (λ _. tt)
+  confirms = by-test (DueAccepted g) (swapBegun g f) (λ _. tt)
       (λ _. by-test (DueAccepted g) (onTrial g f) (λ _. state-accepted g f v Boot success)
       (λ _. by-test (DueAccepted g) (soundWith (trailerOf g f Boot) success) (λ _. tt) (λ _. tt)))
 

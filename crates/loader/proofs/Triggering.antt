@@ -24,14 +24,14 @@ use Rattle.slots.specs.declared.places.Slot.the-variants.{Boot, Update}
 use Rattle.slots.proofs.Apart.{length-at}
 use Rattle.slots.proofs.RenewalSteps.{renewal-ends, never-refused}
 use Rattle.slots.proofs.Renewing.{left-max, left-idle}
-use Rattle.loader.specs.Requests.{midway, triggering, triggerAnswer}
+use Rattle.loader.specs.Requests.{swapBegun, triggering, triggerAnswer}
 use Rattle.loader.specs.States.{updating, testing, onTrial}
 use Rattle.loader.specs.Triggered.{triggered, TriggerEnds}
 
 -- nothing stands against a trigger
 record Ready (g : Geometry) (f : List ℕ) : Type 0 where
   ok : geometryCheck g (length f) ≡ 0
-  not-midway : midway g f ≡ false
+  not-begun : swapBegun g f ≡ false
   not-trial : onTrial g f ≡ false
 
 abbrev left : Geometry → List ℕ → ℕ
@@ -40,21 +40,21 @@ left g f = stepsLeft (trailerOf g f Update) (g .count) updating
 module _ (g : Geometry) (f : List ℕ) where
   renews : Ready g f → triggerAnswer g f ≡ renewalOf g f Update updating
   unfolding triggerAnswer triggering
-  renews r = rw (r .ok, r .not-midway, r .not-trial)
+  renews r = rw (r .ok, r .not-begun, r .not-trial)
 
   ready : ((n : ℕ) → triggerAnswer g f ≢ Refused n) → Ready g f
   unfolding triggerAnswer triggering
-  ready h = go (eqb (geometryCheck g (length f)) 0) refl (midway g f) refl (onTrial g f) refl h
+  ready h = go (eqb (geometryCheck g (length f)) 0) refl (swapBegun g f) refl (onTrial g f) refl h
     where
       number : ℕ
       number = geometryCheck g (length f)
 
-      go : (a : Bool) → eqb number 0 ≡ a → (b : Bool) → midway g f ≡ b → (c : Bool) → onTrial g f ≡ c
+      go : (a : Bool) → eqb number 0 ≡ a → (b : Bool) → swapBegun g f ≡ b → (c : Bool) → onTrial g f ≡ c
           → ((n : ℕ) → cond a (cond b (Refused 22) (cond c (Refused 21) (renewalOf g f Update updating))) (Refused number) ≢ Refused n) → Ready g f
       go false p b q c r k = absurd (k number refl)
       go true p true q c r k = absurd (k 22 refl)
       go true p false q true r k = absurd (k 21 refl)
-      go true p false q false r k = record { ok = eqb-true _ _ p; not-midway = q; not-trial = r }
+      go true p false q false r k = record { ok = eqb-true _ _ p; not-begun = q; not-trial = r }
 
   module _ (r : Ready g f) (d : Step) (e : renewalOf g f Update updating ≡ Due d) where
     step : Renewing g f Update updating d
@@ -70,13 +70,13 @@ module _ (g : Geometry) (f : List ℕ) where
     less = step .less
 
     still : Ready g (applied g f d)
-    unfolding midway
+    unfolding swapBegun
     still =
         let ok′ : geometryCheck g (length (applied g f d)) ≡ 0 = rw size (r .ok) in
         let v = valid g (length (applied g f d)) ok′ in
         record {
           ok = ok′;
-          not-midway = left-idle (trailerOf g (applied g f d) Update) (g .count) updating
+          not-begun = left-idle (trailerOf g (applied g f d) Update) (g .count) updating
               (omega (arith, length-at g (applied g f d) v (Sector Update (g .count)) (omega arith), v .shape .size-min)) (omega arith)
               (omega (arith, less, left-max (trailerOf g f Update) (g .count) updating));
           not-trial = ap (λ (t : List ℕ). soundWith t testing)

@@ -18,17 +18,17 @@ use Rattle.loader.specs.States.{updating, success, staged, onTrial}
 
 module _ (g : Geometry) (f : List ℕ) where
   -- 22: UPDATE is sound with 70 and some flag isn't F
-  unfoldable pub midway : Bool
-  midway = staged g f && not (all new (flags (g .count) (trailerOf g f Update)))
+  unfoldable pub swapBegun : Bool
+  swapBegun = staged g f && not (all new (flags (g .count) (trailerOf g f Update)))
 
   -- the next renewal step of UPDATE to 70
   unfoldable pub triggering : Work
-  triggering = cond midway (Refused 22) (cond (onTrial g f) (Refused 21) (renewalOf g f Update updating))
+  triggering = cond swapBegun (Refused 22) (cond (onTrial g f) (Refused 21) (renewalOf g f Update updating))
 
   -- Byte 00 to BOOT's state while it is on trial; with 00 nothing is left to do
   unfoldable pub confirming : Work
   confirming =
-      cond midway (Refused 22)
+      cond swapBegun (Refused 22)
       (cond (onTrial g f) (Due (Byte (stateAt g Boot) success))
       (cond (soundWith (trailerOf g f Boot) success) Finished (Refused 23)))
 

@@ -27,7 +27,8 @@ pub fn next_step(flash: &[u8], g: Geometry, boot_signed: bool, update_signed: bo
     decisions::decide(flash, g, boot_signed, update_signed)
 }
 
-// The next step that stages UPDATE's image, or finished; 22 in mid-swap, 21 while BOOT is on trial.
+// The next step that stages UPDATE's image, or finished; 22 while a swap is begun, 21 while BOOT is on
+// trial.
 pub fn trigger(flash: &[u8], g: Geometry) -> Work
     ensures { λ r. ⌜ r ≡ triggerAnswer g (now (flash .entry)) ⌝ }
 {
@@ -38,8 +39,8 @@ pub fn trigger(flash: &[u8], g: Geometry) -> Work
     requests::trigger(flash, g)
 }
 
-// The step that confirms the image on trial, or finished where it is confirmed; 22 in mid-swap, 23 where
-// nothing is on trial.
+// The step that confirms the image on trial, or finished where it is confirmed; 22 while a swap is begun,
+// 23 where nothing is on trial.
 pub fn confirm(flash: &[u8], g: Geometry) -> Work
     ensures { λ r. ⌜ r ≡ confirmAnswer g (now (flash .entry)) ⌝ }
 {

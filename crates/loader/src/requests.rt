@@ -2,7 +2,7 @@
 ghost use mathlib.Core.Path.{_≡_};
 ghost use lib.ListN.{length};
 ghost use Rattle.flash.specs.Geometry.{geometryCheck};
-ghost use Rattle.loader.specs.Requests.{midway, triggering, confirming};
+ghost use Rattle.loader.specs.Requests.{swapBegun, triggering, confirming};
 use crate::states::SUCCESS;
 use crate::states::UPDATING;
 use crate::states::is_on_trial;
@@ -14,9 +14,9 @@ use slots::Slot;
 use slots::Work;
 
 // Whether UPDATE is sound with 70 and some flag isn't F.
-fn is_midway(flash: &[u8], g: Geometry) -> bool
+fn is_swap_begun(flash: &[u8], g: Geometry) -> bool
     requires { ⌜ geometryCheck g (length (now flash)) ≡ 0 ⌝ }
-    ensures { λ r. ⌜ r ≡ midway g (now (flash .entry)) ⌝ }
+    ensures { λ r. ⌜ r ≡ swapBegun g (now (flash .entry)) ⌝ }
 {
     if is_staged(flash, g) {
         match slots::progress(flash, g) {
@@ -31,7 +31,7 @@ pub(crate) fn trigger(flash: &[u8], g: Geometry) -> Work
     requires { ⌜ geometryCheck g (length (now flash)) ≡ 0 ⌝ }
     ensures { λ r. ⌜ r ≡ triggering g (now (flash .entry)) ⌝ }
 {
-    if is_midway(flash, g) {
+    if is_swap_begun(flash, g) {
         return Work::Refused(22);
     }
     if is_on_trial(flash, g) {
@@ -44,7 +44,7 @@ pub(crate) fn confirm(flash: &[u8], g: Geometry) -> Work
     requires { ⌜ geometryCheck g (length (now flash)) ≡ 0 ⌝ }
     ensures { λ r. ⌜ r ≡ confirming g (now (flash .entry)) ⌝ }
 {
-    if is_midway(flash, g) {
+    if is_swap_begun(flash, g) {
         return Work::Refused(22);
     }
     if is_on_trial(flash, g) {

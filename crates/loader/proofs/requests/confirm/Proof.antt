@@ -6,13 +6,13 @@ use Rattle.loader.proofs.requests.confirm.Tie as tie
 
 returns : tie.Need-returns
 unfolding confirming
-returns c = rw (← c .before .is-midway .ensures, c .if1 .taken)
+returns c = rw (← c .before .is-swap-begun .ensures, c .if1 .taken)
 
 returns-2 : tie.Need-returns-2
 unfolding confirming
 returns-2 c =
     rw (
-      ← c .before .before .before .before .is-midway .ensures,
+      ← c .before .before .before .before .is-swap-begun .ensures,
       c .before .before .before .if1 .left,
       ← c .before .before .is-on-trial .ensures,
       c .before .if2 .taken,
@@ -23,7 +23,7 @@ returns-3 : tie.Need-returns-3
 unfolding confirming
 returns-3 c =
     rw (
-      ← c .before .before .before .before .before .is-midway .ensures,
+      ← c .before .before .before .before .before .is-swap-begun .ensures,
       c .before .before .before .before .if1 .left,
       ← c .before .before .before .is-on-trial .ensures,
       c .before .before .if2 .left,
@@ -35,7 +35,7 @@ returns-4 : tie.Need-returns-4
 unfolding confirming
 returns-4 c =
     rw (
-      ← c .before .before .before .before .before .is-midway .ensures,
+      ← c .before .before .before .before .before .is-swap-begun .ensures,
       c .before .before .before .before .if1 .left,
       ← c .before .before .before .is-on-trial .ensures,
       c .before .before .if2 .left,

@@ -6,13 +6,13 @@ use Rattle.loader.proofs.requests.trigger.Tie as tie
 
 returns : tie.Need-returns
 unfolding triggering
-returns c = rw (← c .before .is-midway .ensures, c .if1 .taken)
+returns c = rw (← c .before .is-swap-begun .ensures, c .if1 .taken)
 
 returns-2 : tie.Need-returns-2
 unfolding triggering
 returns-2 c =
     rw (
-      ← c .before .before .before .is-midway .ensures,
+      ← c .before .before .before .is-swap-begun .ensures,
       c .before .before .if1 .left,
       ← c .before .is-on-trial .ensures,
       c .if2 .taken,
@@ -22,7 +22,7 @@ returns-3 : tie.Need-returns-3
 unfolding triggering
 returns-3 c =
     rw (
-      ← c .before .before .before .before .is-midway .ensures,
+      ← c .before .before .before .before .is-swap-begun .ensures,
       c .before .before .before .if1 .left,
       ← c .before .before .is-on-trial .ensures,
       c .before .if2 .left,

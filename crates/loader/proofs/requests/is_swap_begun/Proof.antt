@@ -2,12 +2,12 @@ use mathlib.Core.Path.{_∙_}
 use borrow.Author.Needs.{needs}
 use Rattle.slots.proofs.Answered.{progress-told}
 use Rattle.slots.proofs.Reached.{new-at, new-refused}
-use Rattle.loader.specs.Requests.{midway}
-use Rattle.loader.proofs.requests.is_midway.Statement.{statement}
-use Rattle.loader.proofs.requests.is_midway.Tie as tie
+use Rattle.loader.specs.Requests.{swapBegun}
+use Rattle.loader.proofs.requests.is_swap_begun.Statement.{statement}
+use Rattle.loader.proofs.requests.is_swap_begun.Tie as tie
 
 returns : tie.Need-returns
-unfolding midway
+unfolding swapBegun
 returns c =
     let p = c .before .before .before in
     let s = p .before .before in
@@ -18,7 +18,7 @@ returns c =
     )
 
 returns-2 : tie.Need-returns-2
-unfolding midway
+unfolding swapBegun
 returns-2 c =
     let p = c .before .before in
     let s = p .before .before in
@@ -29,9 +29,9 @@ returns-2 c =
     )
 
 returns-3 : tie.Need-returns-3
-unfolding midway
+unfolding swapBegun
 returns-3 c = rw (← c .before .is-staged .ensures, c .if1 .left)
 
-pub is-midway-spec : {M : Type 1} → statement M
-is-midway-spec =
+pub is-swap-begun-spec : {M : Type 1} → statement M
+is-swap-begun-spec =
     tie.close (tie.spec (λ c κs. search needs) (λ c κs. search needs) (λ c. search needs) returns (λ c. search needs) returns-2 returns-3)
