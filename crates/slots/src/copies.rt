@@ -47,8 +47,9 @@ fn exchange_step(flash: &[u8], g: Geometry, reached: usize) -> Step
 {
     let from = source_of(reached);
     let to = target_of(reached);
+    let source = sector(flash, g, from);
     let target = sector(flash, g, to);
-    if same(sector(flash, g, from), target) {
+    if same(source, target) {
         return flag_step(flash, g, reached);
     }
     if all(0xFF, target) {

@@ -27,10 +27,10 @@ to-fits c =
     omega (arith, offset-in (a .args .g) (length (a .args .flash .now)) (a .pre .0) (c .target-of .result) (to-in c))
 
 sector-requires : tie.Need-sector-requires
-sector-requires c κs = (c .before .before .before .pre .0, to-in c)
+sector-requires c κs = (c .before .before .before .pre .0, from-in c)
 
 sector-requires-2 : tie.Need-sector-requires-2
-sector-requires-2 c κs = (c .before .before .before .before .pre .0, from-in (c .before))
+sector-requires-2 c κs = (c .before .before .before .before .pre .0, to-in (c .before))
 
 returns : tie.Need-returns
 unfolding exchangeStep
