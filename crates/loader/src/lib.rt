@@ -14,6 +14,7 @@ pub use answers::Answer;
 use flash::Geometry;
 use flash::check_geometry;
 use slots::Work;
+pub use states::UPDATING;
 
 // The next step on the way to a boot. The signature checker's answers go by the slots as they are, but in
 // mid-swap by the slots before that swap.

@@ -7,7 +7,7 @@ use flash::Geometry;
 use slots::Slot;
 use slots::is_sound_with;
 
-pub(crate) const UPDATING: u8 = 0x70;
+pub const UPDATING: u8 = 0x70;
 
 pub(crate) const SPENT: u8 = 0x30;
 

@@ -56,7 +56,7 @@ module _ (z : ℕ) (hz : 256 ≤ z) where
   blank-all : all 0xFF (blank z) ≡ true
   blank-all = all-of 0xFF (blank z) (λ i h. blank-at i (omega (arith, length-blank z)))
 
-  blank-unsound : sound (blank z) ≡ false
+  pub blank-unsound : sound (blank z) ≡ false
   blank-unsound = unsound (blank z) (rw (length-blank z) (blank-at (z - 4) (omega arith)))
 
   module _ (v : ℕ) (hv : v < 255) where
@@ -72,7 +72,7 @@ module _ (z : ℕ) (hz : 256 ≤ z) where
     stamped-at : (i : ℕ) → i < z → i ≢ z - 5 → getD stamped i 0 ≡ 255
     stamped-at i h n = getD-set-other (blank z) (z - 5) i v 0 n ∙ blank-at i h
 
-    stamped-unsound : sound stamped ≡ false
+    pub stamped-unsound : sound stamped ≡ false
     stamped-unsound = unsound stamped (rw length-stamped (stamped-at (z - 4) (omega arith) (omega arith)))
 
     stamped-not-blank : all 0xFF stamped ≡ false
@@ -115,12 +115,12 @@ module _ (z : ℕ) (hz : 256 ≤ z) where
         let e : drop (z - 4) closed ≡ ands (drop (z - 4) stamped) closing = drop-write stamped (z - 4) (omega (arith, length-stamped)) closing in
         rw (sound-is, length-closed, e, stamped-end, closing-is) (same-self (0x42 ∷ 0x4F ∷ 0x4F ∷ 0x54 ∷ []))
 
-    closed-with : soundWith closed v ≡ true
+    pub closed-with : soundWith closed v ≡ true
     unfolding soundWith
     closed-with = and-both (sound closed) (eqb (state closed) v) closed-sound
         (rw length-closed (eq-eqb (getD closed (z - 5) 0) v (closed-at (z - 5) (omega arith) ∙ stamped-state)))
 
-    closed-flags : (n : ℕ) → n ≤ 64 → all new (flags n closed) ≡ true
+    pub closed-flags : (n : ℕ) → n ≤ 64 → all new (flags n closed) ≡ true
     unfolding flag flagAt half
     closed-flags n h = all-of new (flags n closed) (λ i k.
         let l : i < n = omega (arith, length-flags n closed) in getD-flags n closed i l ∙ one i (omega arith))
