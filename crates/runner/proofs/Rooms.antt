@@ -1,0 +1,37 @@
+-- The room of the counters. Assumes nothing.
+use Prim.Native.Nat.{ℕ, _-_, _≤_, _<_}
+use mathlib.Core.Bool.{true, _&&_}
+use mathlib.Core.Path.{_≡_}
+use native.Mathlib.Omega.{arith}
+use borrow.Author.Needs.{needs}
+use borrow.Author.Tests.{leb-true}
+use lib.Dec.{leb}
+use Rattle.compare.proofs.Tests.{and-left, and-right}
+use Rattle.flash.specs.declared.steps.Step.{Step}
+use Rattle.flash.specs.declared.steps.Step.the-variants.{Erase, Copy, Byte, Mark}
+use Rattle.runner.specs.Counts.{counted, roomy, RoomFor}
+use Rattle.runner.specs.declared.counts.StepCounts.{StepCounts}
+
+abbrev most : ℕ
+most = 4294963199
+
+pub roomy-for : (c : StepCounts) (n : ℕ) → roomy c ≡ true → n ≤ 4096 → RoomFor c n
+unfolding roomy
+roomy-for c n h k =
+    let e = leb (c .erases) most in
+    let p = leb (c .copies) most in
+    let b = leb (c .bytes) most in
+    let three = and-left (e && p && b) (leb (c .marks) most) h in
+    let two = and-left (e && p) b three in
+    let he = leb-true (c .erases) most (and-left e p two) in
+    let hp = leb-true (c .copies) most (and-right e p two) in
+    let hb = leb-true (c .bytes) most (and-right (e && p) b three) in
+    let hm = leb-true (c .marks) most (and-right (e && p && b) (leb (c .marks) most) h) in
+    record { erases-in = omega arith; copies-in = omega arith; bytes-in = omega arith; marks-in = omega arith }
+
+-- a step takes one from the room
+pub room-less : (c : StepCounts) (n : ℕ) (s : Step) → 0 < n → RoomFor c n → RoomFor (counted c s) (n - 1)
+room-less c n (Erase at) h r = search needs
+room-less c n (Copy from to) h r = search needs
+room-less c n (Byte at v) h r = search needs
+room-less c n (Mark at) h r = search needs

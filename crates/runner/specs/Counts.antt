@@ -1,0 +1,43 @@
+-- Document 01, "The next step": the record of finished steps, one counter per kind (the paper's word for it is a tally).
+use Prim.Native.Nat.{ℕ, _+_, _^_, _<_}
+use mathlib.Core.Bool.{Bool, cond, _&&_}
+use mathlib.Core.List.{List, [], _∷_}
+use lib.Dec.{leb}
+use Rattle.flash.specs.Geometry.{unless}
+use Rattle.flash.specs.declared.steps.Step.{Step}
+use Rattle.flash.specs.declared.steps.Step.the-variants.{Erase, Copy, Byte, Mark}
+use Rattle.runner.specs.declared.counts.StepCounts.{StepCounts}
+
+-- one finished step more
+abbrev pub counted : StepCounts → Step → StepCounts
+counted c (Erase at) = record { erases = c .erases + 1; copies = c .copies; bytes = c .bytes; marks = c .marks }
+counted c (Copy from to) = record { erases = c .erases; copies = c .copies + 1; bytes = c .bytes; marks = c .marks }
+counted c (Byte at v) = record { erases = c .erases; copies = c .copies; bytes = c .bytes + 1; marks = c .marks }
+counted c (Mark at) = record { erases = c .erases; copies = c .copies; bytes = c .bytes; marks = c .marks + 1 }
+
+-- the finished steps of a run, in order
+unfoldable pub countedAll : StepCounts → List Step → StepCounts
+countedAll c [] = c
+countedAll c (s ∷ l) = countedAll (counted c s) l
+
+-- no counter is above 4,294,963,199: there is room for the 4096 steps of a run
+unfoldable pub roomy : StepCounts → Bool
+roomy c = leb (c .erases) 4294963199 && leb (c .copies) 4294963199 && leb (c .bytes) 4294963199 && leb (c .marks) 4294963199
+
+-- adding one step: the number answered, and the record that is left
+unfoldable pub countsCheck : StepCounts → ℕ
+countsCheck c = unless (roomy c) 28 0
+
+unfoldable pub countsAfter : StepCounts → Step → StepCounts
+countsAfter c s = cond (roomy c) (counted c s) c
+
+-- ---- the code's own: four numbers as a record, and each counter with room for n steps more
+
+abbrev pub counts4 : ℕ → ℕ → ℕ → ℕ → StepCounts
+counts4 e c b m = record { erases = e; copies = c; bytes = b; marks = m }
+
+pub record RoomFor (c : StepCounts) (n : ℕ) : Type 0 where
+  pub erases-in : c .erases + n < 2 ^ 32
+  pub copies-in : c .copies + n < 2 ^ 32
+  pub bytes-in : c .bytes + n < 2 ^ 32
+  pub marks-in : c .marks + n < 2 ^ 32

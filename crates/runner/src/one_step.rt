@@ -1,0 +1,79 @@
+// One step decided and done.
+ghost use mathlib.Core.Path.{_≡_};
+ghost use lib.ListN.{length};
+ghost use Rattle.flash.specs.Geometry.{geometryCheck};
+ghost use Rattle.loader.specs.Checks.{imageChecks};
+ghost use Rattle.loader.specs.Decisions.{nextStep};
+ghost use Rattle.runner.specs.Runs.{exchanged, afterAnswer, turns};
+use flash::Geometry;
+use flash::Step;
+use flash::apply_step;
+use flash::check_geometry;
+use loader::Answer;
+use loader::UPDATING;
+use loader::next_step;
+use slots::Progress;
+use slots::Slot;
+
+// What was decided and, if it is a step, done. turned: that step made the last flag 0, and from there on the
+// signature checker's answers go by the slots exchanged.
+pub struct Advanced {
+    pub answer: Answer,
+    pub turned: bool,
+}
+
+// Whether UPDATE is sound with 70 and all flags are 0.
+fn is_exchanged(flash: &[u8], g: Geometry) -> bool
+    requires { ⌜ geometryCheck g (length (now flash)) ≡ 0 ⌝ }
+    ensures { λ r. ⌜ r ≡ exchanged g (now (flash .entry)) ⌝ }
+{
+    if slots::is_sound_with(flash, g, Slot::Update, UPDATING) {
+        match slots::progress(flash, g) {
+            Progress::At(reached) => return reached == 3 * g.count,
+            Progress::Refused(_) => return false,
+        }
+    }
+    false
+}
+
+// Decides the next step and carries it out; a boot or a refusal changes nothing.
+pub fn advance(flash: &mut [u8], g: Geometry, boot_signed: bool, update_signed: bool) -> Advanced
+    ensures { λ r. ⌜ (r .answer ≡ nextStep imageChecks g (now (flash .entry)) «boot_signed» «update_signed»)
+        × ((now (flash .exit) ≡ afterAnswer g (now (flash .entry)) (r .answer))
+        × (r .turned ≡ turns g (now (flash .entry)) (r .answer))) ⌝ }
+{
+    let number = check_geometry(g, flash.len());
+    if number != 0 {
+        return Advanced {
+            answer: Answer::Refused(number),
+            turned: false,
+        };
+    }
+    let answer = next_step(flash, g, boot_signed, update_signed);
+    match answer {
+        Answer::Step(step) => {
+            let before = is_exchanged(flash, g);
+            apply_step(flash, g, step);
+            let after = is_exchanged(flash, g);
+            Advanced {
+                answer,
+                turned: !before & after,
+            }
+        }
+        Answer::LastStep(step) => {
+            apply_step(flash, g, step);
+            Advanced {
+                answer,
+                turned: false,
+            }
+        }
+        Answer::Boot(_) => Advanced {
+            answer,
+            turned: false,
+        },
+        Answer::Refused(_) => Advanced {
+            answer,
+            turned: false,
+        },
+    }
+}
