@@ -1,0 +1,130 @@
+// Document 01's simulator. Reads a record of 24 bytes and the flash from standard input, runs with the number
+// 4096, and prints each step begun, then BOOT and the version of BOOT's image, or REFUSE and the number.
+ghost use mathlib.Core.Bool.{cond};
+ghost use mathlib.Core.Path.{_≡_};
+ghost use Rattle.header.specs.Numbers.{numberAt};
+ghost use Rattle.loader.specs.Checks.{imageChecks};
+ghost use Rattle.runner.specs.Runs.{runFor};
+ghost use Rattle.simulator.specs.Input.{geometryIn, simulated};
+use flash::Geometry;
+use header::u32_at;
+use header::version_of;
+use libc::STDIN_FILENO;
+use libc::STDOUT_FILENO;
+use loader::Answer;
+use loader::next_step;
+use runner::advance;
+use show::decimal;
+use show::refusal;
+use slots::Slot;
+
+const RECORD: usize = 24;
+
+const MOST_FLASH: usize = 65_536;
+
+fn number(record: &[u8], i: usize) -> usize
+    ensures { λ r. ⌜ r ≡ numberAt 4 (now («record» .entry)) i ⌝ }
+{
+    u32_at(record, i) as usize
+}
+
+fn geometry(record: &[u8]) -> Geometry
+    ensures { λ r. ⌜ r ≡ geometryIn (now («record» .entry)) ⌝ }
+{
+    Geometry {
+        size: number(record, 0),
+        count: number(record, 4),
+        boot: number(record, 8),
+        update: number(record, 12),
+        swap: number(record, 16),
+    }
+}
+
+fn pick(which: bool, yes: bool, no: bool) -> bool
+    ensures { λ r. ⌜ r ≡ cond which yes no ⌝ }
+{
+    if which { yes } else { no }
+}
+
+// A run that prints its steps. The bounded run goes by the same function, `advance`.
+fn show_run(
+    flash: &mut [u8],
+    g: Geometry,
+    boot_signed: bool,
+    update_signed: bool,
+    number: u32,
+) -> Answer
+    ensures { λ r. ⌜ (r ≡ runFor imageChecks g number «boot_signed» «update_signed» (now (flash .entry)) .answer)
+        × (now (flash .exit) ≡ runFor imageChecks g number «boot_signed» «update_signed» (now (flash .entry)) .flash) ⌝ }
+{
+    let mut left = number;
+    let mut a = boot_signed;
+    let mut b = update_signed;
+    while 0 < left {
+        let done = advance(flash, g, a, b);
+        let answer = done.answer;
+        match answer {
+            Answer::Step(step) => {
+                show_steps::step(step);
+                let turned = done.turned;
+                let next = pick(turned, b, a);
+                b = pick(turned, a, b);
+                a = next;
+                left -= 1;
+            }
+            Answer::LastStep(step) => {
+                show_steps::step(step);
+                return Answer::Boot(0);
+            }
+            Answer::Boot(_) => return answer,
+            Answer::Refused(_) => return answer,
+        }
+    }
+    next_step(flash, g, a, b)
+}
+
+// The run on the input as it was read; 5 where the record is not whole or the flash is too long.
+fn simulate(record: &[u8], flash: &mut [u8]) -> Answer
+    ensures { λ r. ⌜ (r ≡ simulated (now («record» .entry)) (now (flash .entry)) .answer)
+        × (now (flash .exit) ≡ simulated (now («record» .entry)) (now (flash .entry)) .flash) ⌝ }
+{
+    if record.len() < RECORD {
+        return Answer::Refused(5);
+    }
+    if MOST_FLASH < flash.len() {
+        return Answer::Refused(5);
+    }
+    let answers = number(record, 20);
+    show_run(
+        flash,
+        geometry(record),
+        answers % 2 == 1,
+        answers / 2 % 2 == 1,
+        4096,
+    )
+}
+
+fn show_boot(image: &[u8]) {
+    io::write_all(STDOUT_FILENO, b"BOOT ");
+    decimal(version_of(image).version as u64);
+}
+
+// A run with the number 4096 never ends with a step due, so nothing is printed for one.
+fn show_end(flash: &[u8], g: Geometry, end: Answer) {
+    match end {
+        Answer::Boot(_) => show_boot(slots::image(flash, g, Slot::Boot)),
+        Answer::Refused(number) => refusal(number),
+        _ => {}
+    }
+}
+
+// One byte more than the most that a flash may have is enough to see that it is too long.
+fn main() {
+    let mut record = [0u8; RECORD];
+    let mut space = [0u8; MOST_FLASH + 1];
+    let read = io::read_full(STDIN_FILENO, &mut record);
+    let len = io::read_full(STDIN_FILENO, &mut space);
+    let flash = &mut space[..len];
+    let end = simulate(&record[..read], flash);
+    show_end(flash, geometry(&record), end);
+}

@@ -1,0 +1,41 @@
+#!/usr/bin/env python3
+"""Writes the boards of examples/board, as document 01's simulator takes them: its example; the same board after that
+update; and the update cut by a power loss while it writes BOOT's first sector, which holds half of the copy then.
+Usage: boards.py update > examples/board/update.bin, and so for return and interrupted"""
+import struct
+import sys
+
+sys.dont_write_bytecode = True
+from flash_case import laid_over
+from loader_case import BOTH, U70, G, filled
+from loader_images import ONE, TWO
+from loader_rules import carried_out
+from loader_stories import EXCHANGE
+
+STEPS = f"{EXCHANGE}; B 763 16; M 764; B 1531 48".split("; ")
+CUT = "C 1536 0"
+
+
+def after(flash, steps):
+    for step in steps:
+        letter, *numbers = step.split()
+        flash = carried_out(G, flash, (letter, *map(int, numbers)))
+    return flash
+
+
+STAGED = filled(ONE, TWO, U70)
+BEFORE_CUT = after(STAGED, STEPS[:STEPS.index(CUT)])
+BOARDS = {
+    "update": STAGED,
+    "return": after(STAGED, STEPS),
+    "interrupted": laid_over(BEFORE_CUT, [(G.boot, TWO[:G.z // 2])]),
+}
+
+
+def main():
+    if len(sys.argv) != 2 or sys.argv[1] not in BOARDS:
+        sys.exit(f"usage: {sys.argv[0]} {' | '.join(BOARDS)}")
+    sys.stdout.buffer.write(struct.pack("<6I", G.z, G.n, G.boot, G.update, G.swap, BOTH) + BOARDS[sys.argv[1]])
+
+
+main()

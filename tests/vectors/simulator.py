@@ -1,0 +1,51 @@
+#!/usr/bin/env python3
+"""Writes the files of the program simulator: document 01's example, and the output that document 01 prints for it. The
+implementation in runner_rules.py is held to that output.
+Usage: simulator.py stdin > crates/simulator/stdin, and simulator.py stdout > crates/simulator/stdout"""
+import struct
+import sys
+
+sys.dont_write_bytecode = True
+from loader_case import BOTH, U70, G, filled
+from loader_images import ONE, TWO
+from runner_rules import simulate
+
+# As document 01 has it, one item a line.
+OUTPUT = """\
+C 768 1536
+B 1530 247
+E 768
+C 0 768
+B 1530 243
+E 0
+C 1536 0
+B 1530 240
+E 1536
+C 1024 1536
+B 1530 112
+E 1024
+C 256 1024
+B 1530 48
+E 256
+C 1536 256
+B 1530 0
+B 763 16
+M 764
+B 1531 48
+BOOT 2
+"""
+INPUT = struct.pack("<6I", G.z, G.n, G.boot, G.update, G.swap, BOTH) + filled(ONE, TWO, U70)
+
+
+def main():
+    said = simulate(INPUT)
+    assert said == OUTPUT, said
+    if sys.argv[1:] == ["stdin"]:
+        sys.stdout.buffer.write(INPUT)
+    elif sys.argv[1:] == ["stdout"]:
+        sys.stdout.write(OUTPUT)
+    else:
+        sys.exit(f"usage: {sys.argv[0]} stdin | stdout")
+
+
+main()
