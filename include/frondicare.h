@@ -2,12 +2,12 @@
  *
  * Every entry is proved against its contract in crates/frondicare/src. It returns, reads and writes
  * only what it was lent, and answers numbers of document 01 ("Numbers given back"), 0 for none. A
- * refusal writes nothing.
+ * refusal writes nothing; only a run may refuse after it has done steps, and these stay done.
  *
  * What a caller owes: a pointer and its length describe memory that can be read; a hint is 32 bytes
- * and a signature 64 bytes that can be read; a digest is 32 bytes, a buffer buffer_len bytes and a
- * flash flash_len bytes that can be written and that no other argument reaches. Arguments that are
- * only read may overlap. No pointer is null, also where its length is 0.
+ * and a signature 64 bytes that can be read; a digest is 32 bytes, a buffer buffer_len bytes, a flash
+ * flash_len bytes and a record of steps one such struct that can be written and that no other argument
+ * reaches. Arguments that are only read may overlap. No pointer is null, also where its length is 0.
  *
  * To check an image before it is started:
  *     frondicare_verify(image, image_len, signature_ok) == 0
@@ -24,6 +24,9 @@
  *     } while (a.kind == FRONDICARE_STEP);
  * Then start the image in BOOT, unless a.kind is FRONDICARE_REFUSED. After a last step start it
  * without asking again: it is on trial now, and asked again the loader would begin the return.
+ * frondicare_run does the same in one call, on a flash that is written in place:
+ *     a = frondicare_run(flash, flash_len, .., boot_signed, update_signed, 4096, &counts);
+ * Then start the image in BOOT, if a.kind is FRONDICARE_BOOT.
  * To confirm: the image on trial asks frondicare_confirm and carries out the step. Otherwise the next
  * power-up returns to the image before it, where that one passes.
  *
@@ -31,7 +34,7 @@
  * of the one in UPDATE: of the slots as they are, but in mid-swap of the slots before that swap. It is
  * mid-swap while UPDATE is sound with 70 and its flags are neither all F nor all 0;
  * frondicare_next_step doesn't look at these answers then. So a caller checks both slots before each
- * call, or keeps the answers and exchanges them when a step makes the last flag 0.
+ * call, or keeps the answers and exchanges them when a step makes the last flag 0; a run does that.
  *
  * A slot is sound with a state when it ends in that byte and 42 4F 4F 54. States are hexadecimal: 70
  * updating, 30 spent (UPDATE); 10 on trial, 00 confirmed (BOOT). UPDATE's flags are before its state.
@@ -88,6 +91,14 @@ typedef struct {
     size_t at;       /* erase, byte, mark: the offset; copy: from */
     size_t to;       /* copy: to */
 } frondicare_answer;
+
+/* A record of finished steps, one counter for each kind. */
+typedef struct {
+    uint32_t erases;
+    uint32_t copies;
+    uint32_t bytes;
+    uint32_t marks;
+} frondicare_step_counts;
 
 /* SHA-256 (FIPS 180-4) of a message. 12: longer than 4,294,967,295 bytes. */
 uint32_t frondicare_digest(const uint8_t *message, size_t message_len, uint8_t digest[32]);
@@ -169,6 +180,21 @@ frondicare_answer frondicare_trigger(const uint8_t *flash, size_t flash_len,
 frondicare_answer frondicare_confirm(const uint8_t *flash, size_t flash_len,
                                      size_t sector_size, size_t sector_count,
                                      size_t boot, size_t update, size_t swap);
+
+/* Decides and carries out up to number steps, 0 to 4096, and adds each to the record as it is done. It
+ * ends at a boot, after a last step at once and with number 0; at a refusal; or with the number used
+ * up, and then answers the step that is due, which is not done. boot_signed and update_signed are those
+ * at the start. Boot and refused as for frondicare_next_step. Refused before the first step: 1 to 4 as
+ * above; 29: number is above 4096; 28: a counter is above 4,294,963,199. */
+frondicare_answer frondicare_run(uint8_t *flash, size_t flash_len,
+                                 size_t sector_size, size_t sector_count,
+                                 size_t boot, size_t update, size_t swap,
+                                 bool boot_signed, bool update_signed,
+                                 uint32_t number, frondicare_step_counts *counts);
+
+/* Adds one finished step to a record. op is the step's, as for frondicare_apply_step. 24: op is above
+ * 3; 28: a counter is above 4,294,963,199. */
+uint32_t frondicare_add_step(frondicare_step_counts *counts, uint32_t op);
 
 #ifdef __cplusplus
 }

@@ -8,10 +8,10 @@ use frondicare_tests::powered::two_slots;
 use frondicare_tests::{header, loader, requests};
 use std::hint::black_box;
 
-const BOTH: Signed = Signed { boot: true, update: true };
+pub const BOTH: Signed = Signed { boot: true, update: true };
 
 /// The areas one behind the other, and the length of the flash.
-fn packed(sector_size: usize, sector_count: usize) -> (Geometry, usize) {
+pub fn packed(sector_size: usize, sector_count: usize) -> (Geometry, usize) {
     let slot = (sector_count + 1) * sector_size;
     (Geometry { sector_size, sector_count, boot: 0, update: slot, swap: 2 * slot }, 2 * slot + sector_size)
 }

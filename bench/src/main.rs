@@ -2,6 +2,7 @@
 //! of 21 runs each. No buffer is cleared between runs. Prints the times of a call and their ratio.
 mod compare;
 mod loader_calls;
+mod run_calls;
 
 use compare::compare;
 use frondicare_tests::flash::{self, Geometry, Step};
@@ -86,4 +87,5 @@ fn main() {
     steps(4096, 20_000);
     steps(256, 200_000);
     loader_calls::all();
+    run_calls::all();
 }

@@ -5,7 +5,7 @@
 #include <string.h>
 #include <ucontext.h>
 
-enum { ROOM = 64 * 1024, PAINT = 0xa5, MOST_DIGEST = 768, MOST = 1152, MOST_NEXT_STEP = 1280 };
+enum { ROOM = 64 * 1024, PAINT = 0xa5, MOST_DIGEST = 768, MOST = 1152, MOST_NEXT_STEP = 1408, MOST_RUN = 1536 };
 /* One image sector to a slot. */
 enum { SECTOR = 4096, BOOT = 0, UPDATE = 2 * SECTOR, SWAP = 4 * SECTOR, FLASH = 5 * SECTOR };
 
@@ -17,6 +17,7 @@ static uint8_t image[256 + 1000];
 static uint8_t *const message = image + 256;
 static uint8_t digest[32];
 static uint8_t flash[FLASH];
+static frondicare_step_counts counts;
 static uint32_t number;
 static ucontext_t main_context, call_context;
 
@@ -65,6 +66,15 @@ static void boot(void) { next_step(FRONDICARE_BOOT); }
 /* A step's kind is 0. */
 static void trigger(void) { number = frondicare_trigger(flash, FLASH, SECTOR, 1, BOOT, UPDATE, SWAP).kind; }
 static void confirm(void) { number = frondicare_confirm(flash, FLASH, SECTOR, 1, BOOT, UPDATE, SWAP).kind; }
+
+/* 0 where it boots. */
+static void run(void)
+{
+    frondicare_answer a = frondicare_run(flash, FLASH, SECTOR, 1, BOOT, UPDATE, SWAP, true, true, 4096, &counts);
+    number = a.kind ^ FRONDICARE_BOOT;
+}
+
+static void add_step(void) { number = frondicare_add_step(&counts, FRONDICARE_MARK); }
 
 static void close_slot(size_t trailer, const char *state_and_mark)
 {
@@ -141,5 +151,10 @@ int main(void)
     close_slot(BOOT + SECTOR, "\x10" "BOOT");
     flash[UPDATE + 2 * SECTOR - 6] = 0xff;
     failed |= report("frondicare_confirm", confirm, base, MOST);
+    fill_slots();
+    close_slot(UPDATE + SECTOR, "\x70" "BOOT");
+    failed |= report("frondicare_run, update", run, base, MOST_RUN);
+    failed |= report("frondicare_run, return", run, base, MOST_RUN);
+    failed |= report("frondicare_add_step", add_step, base, MOST);
     return failed;
 }

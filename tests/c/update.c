@@ -1,26 +1,6 @@
 /* The loader's entries as a firmware engineer uses them: an update is triggered and swapped in, returned from where
  * it isn't confirmed, and stays where it is; and what is refused. */
-#include "check.h"
-
-/* The images' bytes of firmware. */
-enum { OLD = 0x11, NEW = 0x22 };
-
-static uint8_t flash[FLASH];
-
-static void write_image(size_t slot, uint32_t version, uint8_t byte)
-{
-    static const uint8_t hint[32], signature[64];
-    frondicare_fields fields = { version, 0, 0 };
-    uint8_t *firmware = flash + slot + 256;
-    memset(firmware, byte, 256);
-    check(frondicare_write_header(flash + slot, 256, fields, firmware, 256, hint, 0, hint, signature) == 0, "image");
-}
-
-/* Stands for the board's signature checker. */
-static bool is_signed(size_t slot)
-{
-    return flash[slot + 256] == OLD || flash[slot + 256] == NEW;
-}
+#include "board.h"
 
 static frondicare_answer next_step(void)
 {
@@ -42,12 +22,6 @@ static void carry_out(frondicare_answer a)
     uint32_t number =
         frondicare_apply_step(flash, FLASH, SECTOR, SECTORS, BOOT, UPDATE, SWAP, a.op, a.at, a.to, a.value);
     check(number == 0, "a step that was answered is accepted");
-}
-
-/* The kind and the number of an answer, and that nothing else is in it. */
-static bool says(frondicare_answer a, uint32_t kind, uint32_t number)
-{
-    return a.kind == kind && a.number == number && a.op == 0 && a.value == 0 && a.at == 0 && a.to == 0;
 }
 
 static void carry_out_trigger(void)
@@ -73,27 +47,14 @@ static frondicare_answer power_up(int *steps)
     return a;
 }
 
-static void staged(void)
-{
-    memset(flash, 0xff, FLASH);
-    write_image(BOOT, 1, OLD);
-    write_image(UPDATE, 2, NEW);
-}
-
-static bool runs(uint8_t byte)
-{
-    return flash[BOOT + 256] == byte && flash[BOOT + 511] == byte;
-}
-
 static void updated(void)
 {
     int steps;
     staged();
     check(says(power_up(&steps), FRONDICARE_BOOT, 0) && steps == 0, "boot, nothing triggered");
     carry_out_trigger();
-    check(power_up(&steps).kind == FRONDICARE_LAST_STEP && steps == 20 && runs(NEW), "update in 20 steps");
-    check(memcmp(flash + BOOT_STATE, "\x10" "BOOT", 5) == 0, "on trial");
-    check(memcmp(flash + UPDATE_STATE, "\x30" "BOOT", 5) == 0, "spent");
+    check(power_up(&steps).kind == FRONDICARE_LAST_STEP && steps == 20 && in_boot(NEW), "update in 20 steps");
+    check(has_states("\x10" "BOOT", "\x30" "BOOT"), "on trial, spent");
 }
 
 static void returned(void)
@@ -101,7 +62,7 @@ static void returned(void)
     int steps;
     updated();
     check(says(trigger(), FRONDICARE_REFUSED, 21), "trigger on trial");
-    check(power_up(&steps).kind == FRONDICARE_LAST_STEP && runs(OLD), "return");
+    check(power_up(&steps).kind == FRONDICARE_LAST_STEP && in_boot(OLD), "return");
 }
 
 static void confirmed(void)
@@ -111,7 +72,7 @@ static void confirmed(void)
     carry_out(confirm());
     check(flash[BOOT_STATE] == 0x00, "confirm");
     check(says(confirm(), FRONDICARE_FINISHED, 0), "confirmed");
-    check(says(power_up(&steps), FRONDICARE_BOOT, 0) && steps == 0 && runs(NEW), "boot, confirmed");
+    check(says(power_up(&steps), FRONDICARE_BOOT, 0) && steps == 0 && in_boot(NEW), "boot, confirmed");
 }
 
 static void refused(void)

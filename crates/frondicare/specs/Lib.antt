@@ -2,3 +2,4 @@ pub mod Digests
 pub mod Tags
 pub mod Steps
 pub mod Answers
+pub mod Additions

@@ -9,7 +9,7 @@ use flash::Step;
 use flash::apply_step;
 use flash::check_geometry;
 
-enum OptionalStep {
+pub(crate) enum OptionalStep {
     Some(Step),
     None,
 }
@@ -51,7 +51,7 @@ pub extern "C" fn frondicare_check_geometry(
 }
 
 // The step that an op and its arguments stand for. A value above 255 is no byte.
-fn step_of(op: u32, at: usize, to: usize, value: u32) -> OptionalStep
+pub(crate) fn step_of(op: u32, at: usize, to: usize, value: u32) -> OptionalStep
     ensures { λ r. ⌜ r ≡ stepOf op at to value ⌝ }
 {
     match op {

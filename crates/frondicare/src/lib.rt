@@ -2,6 +2,7 @@
 // include/frondicare.h declares them for C.
 mod flash_entries;
 mod loader_entries;
+mod run_entries;
 
 ghost use mathlib.Core.Path.{_≡_};
 ghost use mathlib.Core.List.{_++_};

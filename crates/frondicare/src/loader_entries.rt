@@ -70,6 +70,17 @@ fn flat_work(work: Work) -> FlatAnswer
     }
 }
 
+pub(crate) fn flat_answer(answer: Answer) -> FlatAnswer
+    ensures { λ r. ⌜ r ≡ flatAnswer answer ⌝ }
+{
+    match answer {
+        Answer::Step(step) => flat_step(0, step),
+        Answer::LastStep(step) => flat_step(1, step),
+        Answer::Boot(why) => flat_number(2, why),
+        Answer::Refused(number) => flat_number(3, number),
+    }
+}
+
 // The next step of an update or a return, or a boot.
 #[no_mangle]
 pub extern "C" fn frondicare_next_step(
@@ -85,12 +96,7 @@ pub extern "C" fn frondicare_next_step(
     ensures { λ r. ⌜ r ≡ flatAnswer (nextStep imageChecks (geometryOf «sector_size» «sector_count» boot update swap) (now (flash .entry)) «boot_signed» «update_signed») ⌝ }
 {
     let g = geometry_of(sector_size, sector_count, boot, update, swap);
-    match loader::next_step(flash, g, boot_signed, update_signed) {
-        Answer::Step(step) => flat_step(0, step),
-        Answer::LastStep(step) => flat_step(1, step),
-        Answer::Boot(why) => flat_number(2, why),
-        Answer::Refused(number) => flat_number(3, number),
-    }
+    flat_answer(loader::next_step(flash, g, boot_signed, update_signed))
 }
 
 // The next step that stages UPDATE's image, or finished.

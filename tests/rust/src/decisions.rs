@@ -12,6 +12,13 @@ pub struct Signed {
     pub update: bool,
 }
 
+impl Signed {
+    /// The same images in each other's slots.
+    pub fn exchanged(self) -> Signed {
+        Signed { boot: self.update, update: self.boot }
+    }
+}
+
 /// Why an update is not refused for its version.
 #[derive(Clone, Copy, Debug)]
 pub enum VersionRule {

@@ -4,7 +4,8 @@ use crate::decisions::{self, Signed};
 use crate::flash::{self, Geometry};
 use crate::frondicare::{self, PAINT};
 use crate::raw_step::RawStep;
-use crate::{loader, requests};
+use crate::runs::{self, Counts};
+use crate::{loader, requests, runner};
 
 /// Bytes before and after a flash that are not lent: more than a sector.
 const GUARD: usize = 4096 + 64;
@@ -35,24 +36,51 @@ impl Guarded {
         &self.bytes[self.start..][..self.len]
     }
 
+    fn lent(&mut self) -> &mut [u8] {
+        &mut self.bytes[self.start..][..self.len]
+    }
+
+    /// Every byte is as expected, those around the flash too.
+    fn same_bytes(&self, expected: &[u8], call: impl Fn() -> String) {
+        if self.bytes != expected {
+            let i = (0..expected.len()).find(|&i| self.bytes[i] != expected[i]).unwrap();
+            let (place, is, should) = (i as isize - self.start as isize, self.bytes[i], expected[i]);
+            panic!("{}, flash of {}: {is:02x} at {place}, not {should:02x}", call(), self.len);
+        }
+    }
+
     /// The library's answer. It is the plain one, so is every byte afterwards, and a refusal changes none.
     pub fn apply(&mut self, geometry: &Geometry, step: impl Into<RawStep>) -> u32 {
         let (step, before) = (step.into(), self.bytes.clone());
         let mut expected = before.clone();
         let number = plain_apply(&mut expected[self.start..][..self.len], geometry, step);
-        let answer = frondicare::apply_step(&mut self.bytes[self.start..][..self.len], geometry, step);
+        let answer = frondicare::apply_step(self.lent(), geometry, step);
         assert_eq!(answer, number, "{geometry:?}, flash of {}, {step:?}", self.len);
         assert!(
             answer == 0 || self.bytes == before,
             "{geometry:?}, flash of {}, {step:?}: refused, and written",
             self.len
         );
-        if self.bytes != expected {
-            let i = (0..expected.len()).find(|&i| self.bytes[i] != expected[i]).unwrap();
-            let (place, is, should) = (i as isize - self.start as isize, self.bytes[i], expected[i]);
-            panic!("{geometry:?}, flash of {}, {step:?}: {is:02x} at {place}, not {should:02x}", self.len);
-        }
+        self.same_bytes(&expected, || format!("{geometry:?}, {step:?}"));
         answer
+    }
+
+    /// A run. The library's answer is the plain one in every field, and so are the record and every byte afterwards.
+    pub fn run(&mut self, geometry: &Geometry, signed: Signed, number: u32, counts: &mut Counts) -> Answer {
+        let (before, mut expected, mut plain_counts) = (*counts, self.bytes.clone(), *counts);
+        let plain_flash = &mut expected[self.start..][..self.len];
+        let plain = runs::run(plain_flash, geometry, signed, number, &mut plain_counts);
+        let answer = runner::run(self.lent(), geometry, signed, number, counts);
+        let call = || format!("{geometry:?}, {signed:?}, number {number}, {before:?}");
+        assert_eq!(answer, plain.into(), "{}, flash of {}", call(), self.len);
+        assert_eq!(*counts, plain_counts, "{}, flash of {}", call(), self.len);
+        self.same_bytes(&expected, call);
+        plain
+    }
+
+    /// Somebody else writes the flash.
+    pub fn put(&mut self, place: usize, data: &[u8]) {
+        self.lent()[place..place + data.len()].copy_from_slice(data);
     }
 
     /// The plain answer. The library's is the same in every field, and leaves every byte as it is.

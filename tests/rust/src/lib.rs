@@ -1,23 +1,30 @@
 //! The static library seen from Rust, an independent implementation to hold it to, and random input for both.
 pub mod answers;
 pub mod boards;
+pub mod cuts;
 pub mod damage;
 pub mod decisions;
 pub mod flash;
 pub mod frondicare;
 pub mod guarded;
 pub mod header;
+pub mod histories;
 pub mod images;
 pub mod layouts;
 pub mod loader;
 pub mod paper;
+pub mod power_ups;
 pub mod powered;
 pub mod random;
 pub mod raw_step;
 pub mod records;
 pub mod requests;
+pub mod runner;
+pub mod runs;
 pub mod seen;
 pub mod sha256;
+pub mod staged;
+pub mod totals;
 pub mod trailers;
 pub mod writer;
 

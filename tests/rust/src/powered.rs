@@ -3,7 +3,8 @@ use crate::answers::Answer;
 use crate::decisions::Signed;
 use crate::flash::{Areas, Geometry, Slot, Step};
 use crate::guarded::Guarded;
-use crate::trailers::{image, progress, sound_with, UPDATING};
+use crate::runs::all_updated;
+use crate::trailers::{image, sound_with};
 
 /// A flash with an image put in each slot.
 pub fn two_slots(mut flash: Vec<u8>, geometry: &Geometry, boot: &[u8], update: &[u8]) -> Vec<u8> {
@@ -37,18 +38,12 @@ impl Powered {
         sound_with(&areas, flash, Slot::Boot, boot) && sound_with(&areas, flash, Slot::Update, update)
     }
 
-    fn all_flags_0(&self) -> bool {
-        let (areas, flash) = (self.areas(), self.flash.flash());
-        sound_with(&areas, flash, Slot::Update, UPDATING) && progress(&areas, flash) == Ok(3 * areas.sector_count)
-    }
-
     /// The checker's answers change places when a step makes the last flag 0.
     fn carry_out(&mut self, step: Step) {
-        let before = self.all_flags_0();
+        let before = all_updated(&self.areas(), self.flash.flash());
         assert_eq!(self.flash.apply(&self.geometry, step), 0, "{:?}, {step:?}", self.geometry);
-        if self.all_flags_0() && !before {
-            let Signed { boot, update } = self.signed;
-            self.signed = Signed { boot: update, update: boot };
+        if all_updated(&self.areas(), self.flash.flash()) && !before {
+            self.signed = self.signed.exchanged();
         }
     }
 

@@ -26,13 +26,15 @@ pub fn text_or_refusal<T>(answer: Result<T, u32>, text: impl Fn(T) -> String) ->
     answer.map_or_else(|number| format!("REFUSE {number}"), text)
 }
 
-/// Each record's answer is its line of the output, and there are at least so many.
+/// Each record's answer is its line of the output, or its lines, and there are at least so many records.
 pub fn same_lines(input: &'static [u8], output: &str, mut answer: impl FnMut(&mut Input) -> String, least: usize) {
     let mut input = Input(input);
     let mut lines = output.lines();
     let mut count = 0;
     while !input.0.is_empty() {
-        assert_eq!(Some(answer(&mut input).as_str()), lines.next());
+        for line in answer(&mut input).lines() {
+            assert_eq!(Some(line), lines.next());
+        }
         count += 1;
     }
     assert_eq!(lines.next(), None);

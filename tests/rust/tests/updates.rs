@@ -4,26 +4,14 @@ use frondicare_tests::decisions::{self, Signed};
 use frondicare_tests::flash::Geometry;
 use frondicare_tests::guarded::Guarded;
 use frondicare_tests::layouts::{self, SECTOR_SIZES};
-use frondicare_tests::paper::{EXCHANGE, G, G_LEN};
+use frondicare_tests::paper::{example, EXCHANGE, G, G_LEN};
 use frondicare_tests::powered::{two_slots, Powered};
 use frondicare_tests::random::Random;
 use frondicare_tests::trailers::{SPENT, SUCCESS, TESTING};
-use frondicare_tests::writer::{self, Fields, Parts};
+use frondicare_tests::writer::Fields;
 use frondicare_tests::{frondicare, header, images, loader, requests};
 
 const BOTH: Signed = Signed { boot: true, update: true };
-
-/// A flash of document 01's simulator example: geometry G, and UPDATE not yet triggered.
-fn example() -> Vec<u8> {
-    let [boot, update] = [(1, 0x11), (2, 0x22)].map(|(version, byte)| {
-        let (fields, firmware) = (Fields { version, timestamp: 0, firmware_type: 0 }, [byte; 256]);
-        let mut header = vec![0; header::SIZE];
-        let parts = Parts { fields, firmware: &firmware, custom: &[], hint: &[0; 32] };
-        writer::write_header(&mut header, &parts, &[0; 64]).expect("the parts are well formed");
-        [header, firmware.to_vec()].concat()
-    });
-    two_slots(vec![0xff; G_LEN], &G, &boot, &update)
-}
 
 #[test]
 fn paper_example() {

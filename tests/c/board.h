@@ -1,0 +1,53 @@
+/* Document 01's example, for the tests of the loader's entries: a flash with an old image in BOOT and a new one in
+ * UPDATE, and what an answer says. */
+#ifndef BOARD_H
+#define BOARD_H
+
+#include "check.h"
+
+/* The images' bytes of firmware. */
+enum { OLD = 0x11, NEW = 0x22 };
+
+static uint8_t flash[FLASH];
+
+static void write_image(size_t slot, uint32_t version, uint8_t byte)
+{
+    static const uint8_t hint[32], signature[64];
+    frondicare_fields fields = { version, 0, 0 };
+    uint8_t *firmware = flash + slot + 256;
+    memset(firmware, byte, 256);
+    check(frondicare_write_header(flash + slot, 256, fields, firmware, 256, hint, 0, hint, signature) == 0, "image");
+}
+
+/* Not yet triggered. */
+static void staged(void)
+{
+    memset(flash, 0xff, FLASH);
+    write_image(BOOT, 1, OLD);
+    write_image(UPDATE, 2, NEW);
+}
+
+/* Stands for the board's signature checker. */
+static bool is_signed(size_t slot)
+{
+    return flash[slot + 256] == OLD || flash[slot + 256] == NEW;
+}
+
+/* Whether BOOT holds the image with this byte. */
+static bool in_boot(uint8_t byte)
+{
+    return flash[BOOT + 256] == byte && flash[BOOT + 511] == byte;
+}
+
+static bool has_states(const char *boot, const char *update)
+{
+    return memcmp(flash + BOOT_STATE, boot, 5) == 0 && memcmp(flash + UPDATE_STATE, update, 5) == 0;
+}
+
+/* The kind and the number of an answer, and that nothing else is in it. */
+static bool says(frondicare_answer a, uint32_t kind, uint32_t number)
+{
+    return a.kind == kind && a.number == number && a.op == 0 && a.value == 0 && a.at == 0 && a.to == 0;
+}
+
+#endif

@@ -1,0 +1,67 @@
+//! The runner's C entries, as include/frondicare.h declares them.
+use crate::answers::RawAnswer;
+use crate::decisions::Signed;
+use crate::flash::Geometry;
+use crate::frondicare::PAINT;
+use crate::runs::Counts;
+
+extern "C" {
+    fn frondicare_run(
+        flash: *mut u8,
+        flash_len: usize,
+        sector_size: usize,
+        sector_count: usize,
+        boot: usize,
+        update: usize,
+        swap: usize,
+        boot_signed: bool,
+        update_signed: bool,
+        number: u32,
+        counts: *mut Counts,
+    ) -> RawAnswer;
+    fn frondicare_add_step(counts: *mut Counts, op: u32) -> u32;
+}
+
+const GUARD: usize = 64;
+
+/// A record with bytes around it that are not lent and have to stay.
+#[repr(C)]
+struct Lent {
+    before: [u8; GUARD],
+    counts: Counts,
+    after: [u8; GUARD],
+}
+
+/// Lends the record to a call.
+fn lend<T>(counts: &mut Counts, call: impl Fn(*mut Counts) -> T) -> T {
+    let mut lent = Lent { before: [PAINT; GUARD], counts: *counts, after: [PAINT; GUARD] };
+    let answer = call(&mut lent.counts);
+    assert!(lent.before == [PAINT; GUARD] && lent.after == [PAINT; GUARD], "bytes beside the record were written");
+    *counts = lent.counts;
+    answer
+}
+
+pub fn run(flash: &mut [u8], geometry: &Geometry, signed: Signed, number: u32, counts: &mut Counts) -> RawAnswer {
+    let Geometry { sector_size, sector_count, boot, update, swap } = *geometry;
+    let Signed { boot: boot_signed, update: update_signed } = signed;
+    let (flash, len) = (flash.as_mut_ptr(), flash.len());
+    lend(counts, |counts| unsafe {
+        frondicare_run(
+            flash,
+            len,
+            sector_size,
+            sector_count,
+            boot,
+            update,
+            swap,
+            boot_signed,
+            update_signed,
+            number,
+            counts,
+        )
+    })
+}
+
+pub fn add_step(counts: &mut Counts, op: u32) -> u32 {
+    lend(counts, |counts| unsafe { frondicare_add_step(counts, op) })
+}
