@@ -1,5 +1,6 @@
 pub mod Sectors
 pub mod Reading
+pub mod Pairs
 pub mod Renewals
 pub mod Exchanging
 pub mod Corresponding

@@ -94,6 +94,10 @@ pub record FlagPlace (len i at : ℕ) : Type 0 where
   pub is : at ≡ flagAt len i
   pub inside : at < len
 
+-- one byte tells that of n sectors i and the next have the flag v
+unfoldable pub pair : ℕ → List ℕ → ℕ → ℕ → Bool
+pair n t i v = eqb (getD t (flagAt (length t) i) 0) (17 * v) && eqb (i % 2) 0 && ltb (i + 1) n
+
 unfoldable pub finishedIn : List ℕ → ℕ
 finishedIn [] = 0
 finishedIn (x ∷ xs) = cond (eqb x updated) (suc (finishedIn xs)) 0

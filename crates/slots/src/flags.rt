@@ -5,7 +5,7 @@ ghost use Prim.Native.Nat.{_+_, _*_, _^_, _≤_, _<_};
 ghost use lib.ListN.{length, drop};
 ghost use Rattle.compare.specs.Compare.{all};
 ghost use Rattle.flash.specs.Valid.{Valid};
-ghost use Rattle.slots.specs.Flags.{new, half, withHalf, FlagPlace, flag, flags, nextFlag, progressAt, progressOf, flagStep, flagStepOf, nextFlagOf};
+ghost use Rattle.slots.specs.Flags.{new, half, withHalf, FlagPlace, flag, pair, flags, nextFlag, progressAt, progressOf, flagStep, flagStepOf, nextFlagOf};
 use crate::answers::Progress;
 use crate::answers::Work;
 use crate::places::Place;
@@ -50,17 +50,30 @@ fn flag(t: &[u8], i: usize) -> u8
     half(i, t[k])
 }
 
+// Whether one byte tells that of n sectors i and the next have the flag v. Most flags are read so, two at once.
+fn is_pair(t: &[u8], n: usize, i: usize, v: u8) -> bool
+    requires { ⌜ (256 ≤ length (now t)) × (n ≤ 64) × (i < n) × (v < 16) ⌝ }
+    ensures { λ r. ⌜ r ≡ pair n (now (t .entry)) i v ⌝ }
+{
+    let k = flag_place(t.len(), i);
+    (t[k] == 17 * v) & (i % 2 == 0) & (i + 1 < n)
+}
+
 // Whether the flags from a sector on, of n sectors, are all v.
 pub(crate) fn is_rest(t: &[u8], n: usize, from: usize, v: u8) -> bool
-    requires { ⌜ (256 ≤ length (now t)) × (n ≤ 64) × (from ≤ n) ⌝ }
+    requires { ⌜ (256 ≤ length (now t)) × (n ≤ 64) × (from ≤ n) × (v < 16) ⌝ }
     ensures { λ r. ⌜ r ≡ all v (drop from (flags n (now (t .entry)))) ⌝ }
 {
     let mut i = from;
     while i < n {
-        if flag(t, i) != v {
-            return false;
+        if is_pair(t, n, i, v) {
+            i += 2;
+        } else {
+            if flag(t, i) != v {
+                return false;
+            }
+            i += 1;
         }
-        i += 1;
     }
     true
 }
@@ -81,18 +94,22 @@ fn progress_at(t: &[u8], n: usize, i: usize, v: u8) -> Progress
     Progress::Refused(20)
 }
 
-// The progress by the flags of n sectors, each read once.
+// The progress by the flags of n sectors.
 pub(crate) fn progress(t: &[u8], n: usize) -> Progress
     requires { ⌜ (256 ≤ length (now t)) × (n ≤ 64) ⌝ }
     ensures { λ r. ⌜ r ≡ progressOf (flags n (now (t .entry))) ⌝ }
 {
     let mut i = 0;
     while i < n {
-        let v = flag(t, i);
-        if v != 0 {
-            return progress_at(t, n, i, v);
+        if is_pair(t, n, i, 0) {
+            i += 2;
+        } else {
+            let v = flag(t, i);
+            if v != 0 {
+                return progress_at(t, n, i, v);
+            }
+            i += 1;
         }
-        i += 1;
     }
     Progress::At(3 * n)
 }

@@ -6,6 +6,7 @@ use lib.ListN.{drop}
 use Rattle.compare.specs.Compare.{all}
 use Rattle.slots.specs.Flags.{flags}
 use Rattle.slots.proofs.Reading.{rest-stop, rest-go, rest-end}
+use Rattle.slots.proofs.Pairs.{Pair, is-pair, pair-rest}
 use Rattle.slots.proofs.flags.is_rest.Statement.{statement}
 use Rattle.slots.proofs.flags.is_rest.Tie as tie
 
@@ -18,17 +19,24 @@ abbrev μ-loop : tie.MeasureT-loop
 loop-holds : tie.Need-loop-holds Inv-loop μ-loop
 loop-holds c = (omega arith, refl)
 
-returns : tie.Need-returns Inv-loop μ-loop
-returns c =
-    let l = c .before .before .before in
-    let a = l .before .before .args in
-    rest-stop (a .n) (l .loop .i) (a .t .now) (omega arith) (c .before .flag .ensures) (a .v) (l .loop .inv .1) (c .if1 .taken)
-
 loop-again : tie.Need-loop-again Inv-loop μ-loop
 loop-again c =
     let l = c .before .before .before in
     let a = l .before .before .args in
-    (omega arith, rest-go (a .n) (l .loop .i) (a .t .now) (omega arith) (c .before .flag .ensures) (a .v) (l .loop .inv .1) (c .if1 .left))
+    let p = is-pair (a .n) (l .loop .i) (a .v) (a .t .now) (omega arith) (c .before .is-pair .ensures) (c .if1 .taken) in
+    (omega (arith, p .room), pair-rest p (l .loop .inv .1))
+
+returns : tie.Need-returns Inv-loop μ-loop
+returns c =
+    let l = c .before .before .before .before .before in
+    let a = l .before .before .args in
+    rest-stop (a .n) (l .loop .i) (a .t .now) (omega arith) (c .before .flag .ensures) (a .v) (l .loop .inv .1) (c .if2 .taken)
+
+loop-again-2 : tie.Need-loop-again-2 Inv-loop μ-loop
+loop-again-2 c =
+    let l = c .before .before .before .before .before in
+    let a = l .before .before .args in
+    (omega arith, rest-go (a .n) (l .loop .i) (a .t .now) (omega arith) (c .before .flag .ensures) (a .v) (l .loop .inv .1) (c .if2 .left))
 
 returns-2 : tie.Need-returns-2 Inv-loop μ-loop
 returns-2 c =
@@ -38,4 +46,5 @@ returns-2 c =
 
 pub is-rest-spec : {M : Type 1} → statement M
 is-rest-spec =
-    tie.close (tie.spec Inv-loop μ-loop loop-holds (λ c κs. search needs) returns (λ c. search needs) (λ c. search needs) loop-again returns-2)
+    tie.close (tie.spec Inv-loop μ-loop loop-holds (λ c κs. search needs) (λ c. search needs) (λ c. search needs) loop-again (λ c κs. search needs) returns
+    (λ c. search needs) (λ c. search needs) loop-again-2 returns-2)
