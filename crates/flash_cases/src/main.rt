@@ -103,8 +103,7 @@ fn case(s: &[u8]) -> usize
     ensures { λ r. ⌜ 0 < r ⌝ }
 {
     let n = byte_at(s, 0) as usize;
-    io::write_all(STDOUT_FILENO, part(s, 1, n));
-    io::write_all(STDOUT_FILENO, b": ");
+    show::label(part(s, 1, n));
     let head = part(s, 1 + n, HEAD);
     let patches = 1 + n + HEAD + 2;
     let patches_len = u16_at(s, 1 + n + HEAD) as usize;

@@ -104,8 +104,7 @@ fn case(s: &[u8]) -> usize
     ensures { λ r. ⌜ 0 < r ⌝ }
 {
     let n = byte_at(s, 0) as usize;
-    io::write_all(STDOUT_FILENO, part(s, 1, n));
-    io::write_all(STDOUT_FILENO, b": ");
+    show::label(part(s, 1, n));
     let head = part(s, 1 + n, HEAD);
     let body_len = u32_at(head, 4) as usize;
     let custom_len = u32_at(head, 8) as usize;

@@ -4,41 +4,23 @@
 // document 01's simulator takes them, a flash's length (4 bytes) and the flash. With length 0 the flash is
 // what the record before left. The letters: n next step, t trigger, c confirm; with N, T and C the step
 // that is answered is carried out.
-ghost use Prim.Native.Nat.{_^_, _<_};
+ghost use Prim.Native.Nat.{_<_};
+use board_records::Taken;
+use board_records::boot_signed;
+use board_records::geometry;
+use board_records::take;
+use board_records::update_signed;
 use flash::Geometry;
 use flash::Step;
 use flash::apply_step;
-use header::u32_at;
 use libc::STDIN_FILENO;
-use libc::STDOUT_FILENO;
 use loader::Answer;
 use records::byte_at;
-use records::copy;
 use records::part;
 use slots::Work;
 
-// How many bytes a record takes, and how many the flash has after it.
-struct Taken {
-    size: usize,
-    flash_len: usize,
-}
-
-// The numbers of the simulator's record.
-fn number(record: &[u8], i: usize) -> usize
-    ensures { λ r. ⌜ r < 2 ^ 32 ⌝ }
-{
-    u32_at(record, i) as usize
-}
-
-fn geometry(record: &[u8]) -> Geometry {
-    Geometry {
-        size: number(record, 0),
-        count: number(record, 4),
-        boot: number(record, 8),
-        update: number(record, 12),
-        swap: number(record, 16),
-    }
-}
+// A case's letter and the board's record.
+const HEAD: u8 = 25;
 
 fn carry_out(flash: &mut [u8], g: Geometry, step: Step, does: bool) {
     if does {
@@ -46,8 +28,8 @@ fn carry_out(flash: &mut [u8], g: Geometry, step: Step, does: bool) {
     }
 }
 
-fn next_step(flash: &mut [u8], g: Geometry, answers: usize, does: bool) {
-    let a = loader::next_step(flash, g, answers % 2 == 1, answers / 2 % 2 == 1);
+fn next_step(flash: &mut [u8], g: Geometry, record: &[u8], does: bool) {
+    let a = loader::next_step(flash, g, boot_signed(record), update_signed(record));
     show_steps::answer(a);
     match a {
         Answer::Step(step) => carry_out(flash, g, step, does),
@@ -67,8 +49,8 @@ fn request(flash: &mut [u8], g: Geometry, w: Work, does: bool) {
 fn answer(flash: &mut [u8], letter: u8, record: &[u8]) {
     let g = geometry(record);
     match letter {
-        b'n' => next_step(flash, g, number(record, 20), false),
-        b'N' => next_step(flash, g, number(record, 20), true),
+        b'n' => next_step(flash, g, record, false),
+        b'N' => next_step(flash, g, record, true),
         b't' => request(flash, g, loader::trigger(flash, g), false),
         b'T' => request(flash, g, loader::trigger(flash, g), true),
         b'c' => request(flash, g, loader::confirm(flash, g), false),
@@ -84,34 +66,20 @@ fn answer_in(space: &mut [u8], flash_len: usize, letter: u8, record: &[u8]) {
     }
 }
 
-fn load(flash: &[u8], space: &mut [u8]) {
-    let n = flash.len();
-    if n <= space.len() {
-        copy(flash, &mut space[..n]);
-    }
-}
-
 // Prints the line of the first record.
 fn case(s: &[u8], space: &mut [u8], flash_len: usize) -> Taken
     ensures { λ r. ⌜ 0 < r .size ⌝ }
 {
+    let taken = take(s, HEAD, space, flash_len);
     let n = byte_at(s, 0) as usize;
-    io::write_all(STDOUT_FILENO, part(s, 1, n));
-    io::write_all(STDOUT_FILENO, b": ");
-    let letter = byte_at(s, 1 + n);
-    let record = part(s, 2 + n, 24);
-    let given = number(s, 26 + n);
-    let size = 30 + n + given;
-    if given == 0 {
-        answer_in(space, flash_len, letter, record);
-        return Taken { size, flash_len };
-    }
-    load(part(s, 30 + n, given), space);
-    answer_in(space, given, letter, record);
-    Taken {
-        size,
-        flash_len: given,
-    }
+    show::label(part(s, 1, n));
+    answer_in(
+        space,
+        taken.flash_len,
+        byte_at(s, 1 + n),
+        part(s, 2 + n, 24),
+    );
+    taken
 }
 
 fn cases(s: &[u8], space: &mut [u8]) {

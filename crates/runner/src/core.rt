@@ -1,5 +1,4 @@
 // The run over four lent counters, which the run lends from the caller's record.
-ghost use mathlib.Core.Bool.{cond};
 ghost use mathlib.Core.Path.{_≡_};
 ghost use Rattle.loader.specs.Checks.{imageChecks};
 ghost use Rattle.runner.specs.Counts.{counted, countedAll, counts4, RoomFor};
@@ -8,6 +7,7 @@ use crate::counts::StepCounts;
 use crate::counts::counted;
 use crate::counts::is_roomy;
 use crate::one_step::advance;
+use crate::one_step::pick;
 use flash::Geometry;
 use flash::Step;
 use flash::check_geometry;
@@ -26,12 +26,6 @@ fn check_run(g: Geometry, len: usize, number: u32, counts: StepCounts) -> u32
         return 29;
     }
     if is_roomy(counts) { 0 } else { 28 }
-}
-
-fn pick(which: bool, yes: bool, no: bool) -> bool
-    ensures { λ r. ⌜ r ≡ cond which yes no ⌝ }
-{
-    if which { yes } else { no }
 }
 
 // One finished step more in the four counters.

@@ -1,6 +1,7 @@
 // The bounded run (document 01, "The next step"): one step decided and done, the record of finished steps,
 // and the run, which decides and does up to a number of steps and counts them in the caller's record.
-// Every public function is total: a call that is refused changes no byte and no counter.
+// Every public function is total. A refusal before the first step changes no byte and no counter; a run's later
+// one keeps the steps done.
 mod core;
 mod counts;
 mod one_step;
@@ -18,6 +19,7 @@ use flash::Step;
 use loader::Answer;
 pub use one_step::Advanced;
 pub use one_step::advance;
+pub use one_step::pick;
 
 // Adds one finished step to the caller's record; 28 where a counter is above 4,294,963,199.
 pub fn add_step(counts: &mut StepCounts, step: Step) -> u32

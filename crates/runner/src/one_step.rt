@@ -1,4 +1,5 @@
 // One step decided and done.
+ghost use mathlib.Core.Bool.{cond};
 ghost use mathlib.Core.Path.{_≡_};
 ghost use lib.ListN.{length};
 ghost use Rattle.flash.specs.Geometry.{geometryCheck};
@@ -34,6 +35,13 @@ fn is_exchanged(flash: &[u8], g: Geometry) -> bool
         }
     }
     false
+}
+
+// One of two answers of the signature checker, which change places where a step has turned them.
+pub fn pick(which: bool, yes: bool, no: bool) -> bool
+    ensures { λ r. ⌜ r ≡ cond which yes no ⌝ }
+{
+    if which { yes } else { no }
 }
 
 // Decides the next step and carries it out; a boot or a refusal changes nothing.

@@ -4,42 +4,24 @@
 // length (1 byte), the name, 24 bytes as document 01's simulator takes them, the number of steps (4 bytes),
 // the counters before the run (16 bytes), a flash's length (4 bytes) and the flash. With length 0 the flash is
 // what the record before left.
-ghost use Prim.Native.Nat.{_^_, _<_};
-use flash::Geometry;
+ghost use Prim.Native.Nat.{_<_};
+use board_records::Taken;
+use board_records::boot_signed;
+use board_records::geometry;
+use board_records::take;
+use board_records::update_signed;
 use header::u32_at;
 use libc::STDIN_FILENO;
-use libc::STDOUT_FILENO;
 use records::byte_at;
-use records::copy;
 use records::part;
 use runner::run_counting;
 use show::field;
 
-// How many bytes a record takes, and how many the flash has after it.
-struct Taken {
-    size: usize,
-    flash_len: usize,
-}
-
-fn number(record: &[u8], i: usize) -> usize
-    ensures { λ r. ⌜ r < 2 ^ 32 ⌝ }
-{
-    u32_at(record, i) as usize
-}
-
-fn geometry(record: &[u8]) -> Geometry {
-    Geometry {
-        size: number(record, 0),
-        count: number(record, 4),
-        boot: number(record, 8),
-        update: number(record, 12),
-        swap: number(record, 16),
-    }
-}
+// The board's record, the number of steps and the counters.
+const HEAD: u8 = 44;
 
 // Runs on the flash and prints the answer, the counters and the digest.
 fn run(flash: &mut [u8], record: &[u8]) {
-    let answers = number(record, 20);
     let steps = u32_at(record, 24);
     let mut erases = u32_at(record, 28);
     let mut copies = u32_at(record, 32);
@@ -48,8 +30,8 @@ fn run(flash: &mut [u8], record: &[u8]) {
     let answer = run_counting(
         flash,
         geometry(record),
-        answers % 2 == 1,
-        answers / 2 % 2 == 1,
+        boot_signed(record),
+        update_signed(record),
         steps,
         &mut erases,
         &mut copies,
@@ -71,33 +53,15 @@ fn run_in(space: &mut [u8], flash_len: usize, record: &[u8]) {
     }
 }
 
-fn load(flash: &[u8], space: &mut [u8]) {
-    let n = flash.len();
-    if n <= space.len() {
-        copy(flash, &mut space[..n]);
-    }
-}
-
 // Prints the lines of the first record.
 fn case(s: &[u8], space: &mut [u8], flash_len: usize) -> Taken
     ensures { λ r. ⌜ 0 < r .size ⌝ }
 {
+    let taken = take(s, HEAD, space, flash_len);
     let n = byte_at(s, 0) as usize;
-    io::write_all(STDOUT_FILENO, part(s, 1, n));
-    io::write_all(STDOUT_FILENO, b": ");
-    let record = part(s, 1 + n, 44);
-    let given = number(s, 45 + n);
-    let size = 49 + n + given;
-    if given == 0 {
-        run_in(space, flash_len, record);
-        return Taken { size, flash_len };
-    }
-    load(part(s, 49 + n, given), space);
-    run_in(space, given, record);
-    Taken {
-        size,
-        flash_len: given,
-    }
+    show::label(part(s, 1, n));
+    run_in(space, taken.flash_len, part(s, 1 + n, HEAD as usize));
+    taken
 }
 
 fn cases(s: &[u8], space: &mut [u8]) {

@@ -14,6 +14,12 @@ pub fn digest(a: Answer) {
     hex(&bytes);
 }
 
+// The name of a case, which its line begins with.
+pub fn label(name: &[u8]) {
+    io::write_all(STDOUT_FILENO, name);
+    io::write_all(STDOUT_FILENO, b": ");
+}
+
 // REFUSE and document 01's number.
 pub fn refusal(number: u32) {
     io::write_all(STDOUT_FILENO, b"REFUSE ");

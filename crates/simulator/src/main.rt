@@ -1,19 +1,20 @@
 // Document 01's simulator. Reads a record of 24 bytes and the flash from standard input, runs with the number
 // 4096, and prints each step begun, then BOOT and the version of BOOT's image, or REFUSE and the number.
-ghost use mathlib.Core.Bool.{cond};
 ghost use mathlib.Core.Path.{_≡_};
-ghost use Rattle.header.specs.Numbers.{numberAt};
 ghost use Rattle.loader.specs.Checks.{imageChecks};
 ghost use Rattle.runner.specs.Runs.{runFor};
-ghost use Rattle.simulator.specs.Input.{geometryIn, simulated};
+ghost use Rattle.simulator.specs.Input.{simulated};
+use board_records::boot_signed;
+use board_records::geometry;
+use board_records::update_signed;
 use flash::Geometry;
-use header::u32_at;
 use header::version_of;
 use libc::STDIN_FILENO;
 use libc::STDOUT_FILENO;
 use loader::Answer;
 use loader::next_step;
 use runner::advance;
+use runner::pick;
 use show::decimal;
 use show::refusal;
 use slots::Slot;
@@ -21,30 +22,6 @@ use slots::Slot;
 const RECORD: usize = 24;
 
 const MOST_FLASH: usize = 65_536;
-
-fn number(record: &[u8], i: usize) -> usize
-    ensures { λ r. ⌜ r ≡ numberAt 4 (now («record» .entry)) i ⌝ }
-{
-    u32_at(record, i) as usize
-}
-
-fn geometry(record: &[u8]) -> Geometry
-    ensures { λ r. ⌜ r ≡ geometryIn (now («record» .entry)) ⌝ }
-{
-    Geometry {
-        size: number(record, 0),
-        count: number(record, 4),
-        boot: number(record, 8),
-        update: number(record, 12),
-        swap: number(record, 16),
-    }
-}
-
-fn pick(which: bool, yes: bool, no: bool) -> bool
-    ensures { λ r. ⌜ r ≡ cond which yes no ⌝ }
-{
-    if which { yes } else { no }
-}
 
 // A run that prints its steps. The bounded run goes by the same function, `advance`.
 fn show_run(
@@ -94,12 +71,11 @@ fn simulate(record: &[u8], flash: &mut [u8]) -> Answer
     if MOST_FLASH < flash.len() {
         return Answer::Refused(5);
     }
-    let answers = number(record, 20);
     show_run(
         flash,
         geometry(record),
-        answers % 2 == 1,
-        answers / 2 % 2 == 1,
+        boot_signed(record),
+        update_signed(record),
         4096,
     )
 }

@@ -17,16 +17,18 @@ returns-3 : tie.Need-returns-3
 unfolding simulated
 returns-3 c =
     let s = c .before .before in
-    let g = s .before in
-    let n = g .before .before in
-    let e = n .before in
+    let u = s .before in
+    let b = u .before in
+    let g = b .before in
+    let e = g .before .before in
     rw (
       le-leb _ _ (e .before .if1 .left),
       le-leb _ _ (e .if2 .left),
       ← g .geometry .ensures,
-      ← n .number .ensures,
+      ← b .boot-signed .ensures,
+      ← u .update-signed .ensures,
     ) (s .show-run .ensures)
 
 pub simulate-spec : {M : Type 1} → statement M
 simulate-spec =
-    tie.close (tie.spec returns returns-2 (λ c κs. search needs) (λ c κs. search needs) (λ c κs. search needs) (λ c. search needs) returns-3)
+    tie.close (tie.spec returns returns-2 (λ c κs. search needs) (λ c κs. search needs) (λ c κs. search needs) (λ c κs. search needs) (λ c. search needs) returns-3)
