@@ -1,50 +1,15 @@
 // Prints the SHA-256 digest of the file that its first argument names, or of standard input, as
 // 64 hexadecimal digits; or REFUSE and document 01's number. What goes wrong with the file is said on
 // standard error, and nothing is printed.
-ghost use Rattle.io.specs.Counts.{Counts};
+use files::fill;
 use libc::STDIN_FILENO;
 use sha256::Answer;
 use sha256::Hash;
-
-// How many bytes came, and whether a read failed.
-struct Filled {
-    count: usize,
-    failed: bool,
-}
 
 // What was read and hashed, and whether a read failed.
 struct Outcome {
     answer: Answer,
     failed: bool,
-}
-
-// Reads until buf is full or the input ends.
-fn fill(fd: i32, buf: &mut [u8]) -> Filled
-    ensures { λ r. ⌜ Counts (r .count) (now (buf .exit)) ⌝ }
-{
-    let mut done = 0;
-    while done < buf.len() {
-        let part = &mut buf[done..];
-        let got = libc::read(fd, part);
-        if got < 0 {
-            return Filled {
-                count: done,
-                failed: true,
-            };
-        }
-        let n = io::count(got, part);
-        if n == 0 {
-            return Filled {
-                count: done,
-                failed: false,
-            };
-        }
-        done += n;
-    }
-    Filled {
-        count: done,
-        failed: false,
-    }
 }
 
 // The digest of what is left of the input. After 4 GiB the answer refuses.
@@ -83,16 +48,12 @@ fn main() {
         report(digest_of(STDIN_FILENO), b"standard input");
         return;
     }
-    let n = os::arg(1, &mut path);
-    if os::errno() != 0 {
-        os::fail(b"the name of the file");
-        return;
-    }
-    let fd = os::open_read(&path[..n]);
+    let opened = files::open_argument(1, &mut path);
+    let fd = opened.fd;
     if fd < 0 {
-        os::fail(&path[..n]);
         return;
     }
+    let n = opened.len;
     report(digest_of(fd), &path[..n]);
     libc::close(fd);
 }

@@ -4,8 +4,8 @@ use native.Mathlib.Omega.{arith}
 use lib.ListN.{length}
 use borrow.Author.Needs.{needs}
 use Rattle.io.proofs.Counting.{counts}
-use Rattle.digest.proofs.fill.Statement.{statement}
-use Rattle.digest.proofs.fill.Tie as tie
+use Rattle.files.proofs.fill.Statement.{statement}
+use Rattle.files.proofs.fill.Tie as tie
 
 abbrev Inv-loop : tie.InvT-loop
 Inv-loop fd buf₀ done₀ buf done = (length buf ≡ length buf₀) × (done ≤ length buf)
