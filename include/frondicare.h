@@ -1,20 +1,25 @@
-/* Frondicare's loader, callable from C. Link libfrondicare.a (rt staticlib frondicare).
+/* Frondicare's loader, callable from C. Link libfrondicare.a (rt staticlib frondicare); examples/valve/ is a
+ * whole loader over it.
  *
- * Every entry is proved against its contract in crates/frondicare/src. It returns, reads and writes
- * only what it was lent, and answers numbers of document 01 ("Numbers given back"), 0 for none. A
+ * Every entry is proved against its contract in crates/frondicare/src. It ends, reads and writes only
+ * what it was lent, and answers numbers of document 01 ("Numbers given back"), 0 for none. A
  * refusal writes nothing; only a run may refuse after it has done steps, and these stay done.
  *
- * What a caller owes: a pointer and its length describe memory that can be read; a hint is 32 bytes
- * and a signature 64 bytes that can be read; a digest is 32 bytes, a buffer buffer_len bytes, a flash
- * flash_len bytes and a record of steps one such struct that can be written and that no other argument
- * reaches. Arguments that are only read may overlap. No pointer is null, also where its length is 0.
+ * What a caller owes: a pointer and its length describe memory that can be read; a hint and a digest are
+ * 32 bytes, a signature is 64. What is taken without const can be written too, and no other argument
+ * reaches it. Nobody else writes any of it during a call. Arguments that are only read may overlap. No
+ * pointer is null, also where its length is 0. A bool is true or false. Every number is accepted.
+ *
+ * What the flash owes, where power is lost: a byte or a mark is written or not begun; an erase or a copy
+ * changes nothing outside its sector; and a cut erase never leaves 42 4F 4F 54 at a slot's end.
  *
  * To check an image before it is started:
  *     frondicare_verify(image, image_len, signature_ok) == 0
  * To make one: frondicare_digest_to_sign, sign the digest, then frondicare_write_header with the
  * same arguments; the image is the 256 bytes of the buffer, then the firmware.
  *
- * To trigger an update: write the image to UPDATE with the flash's own driver. Then ask
+ * To trigger an update: ask frondicare_trigger. Where it refuses, leave UPDATE alone, since it may hold the
+ * image to return to. Otherwise write the image to UPDATE with the flash's own driver; then ask
  * frondicare_trigger and carry out the step it answers, until it answers FRONDICARE_FINISHED.
  * At power-up: ask for the next step and carry it out, until there is none.
  *     do {
@@ -23,21 +28,25 @@
  *             frondicare_apply_step(flash, flash_len, .., a.op, a.at, a.to, a.value);
  *     } while (a.kind == FRONDICARE_STEP);
  * Then start the image in BOOT, unless a.kind is FRONDICARE_REFUSED. After a last step start it
- * without asking again: it is on trial now, and asked again the loader would begin the return.
+ * without asking again: it is on trial now, and asked again the loader would begin the return. A
+ * power-up takes at most 2 (9 sector_count + 4) steps; with more the flash doesn't take what is written.
  * frondicare_run does the same in one call, on a flash that is written in place:
  *     a = frondicare_run(flash, flash_len, .., boot_signed, update_signed, 4096, &counts);
  * Then start the image in BOOT, if a.kind is FRONDICARE_BOOT.
  * To confirm: the image on trial asks frondicare_confirm and carries out the step. Otherwise the next
- * power-up returns to the image before it, where that one passes.
+ * power-up returns to the image before it, where that one passes; it is on trial then too.
  *
  * boot_signed and update_signed are what the caller's signature checker says of the image in BOOT and
  * of the one in UPDATE: of the slots as they are, but in mid-swap of the slots before that swap. It is
  * mid-swap while UPDATE is sound with 70 and its flags are neither all F nor all 0;
- * frondicare_next_step doesn't look at these answers then. So a caller checks both slots before each
+ * frondicare_next_step doesn't look at these answers then. So a caller of it checks both slots before each
  * call, or keeps the answers and exchanges them when a step makes the last flag 0; a run does that.
+ * At a power-up in mid-swap there is no whole slot to check, and a run would want answers that nobody
+ * has kept: do one step at a time, with any answers, until the swap is over, then check and run.
  *
  * A slot is sound with a state when it ends in that byte and 42 4F 4F 54. States are hexadecimal: 70
- * updating, 30 spent (UPDATE); 10 on trial, 00 confirmed (BOOT). UPDATE's flags are before its state.
+ * updating, 30 spent (UPDATE); 10 on trial, 00 confirmed (BOOT). UPDATE's flags are before its state,
+ * two to a byte and downward from it, the even sector's in the low half.
  * An offset counts from the start of the flash. */
 #ifndef FRONDICARE_H
 #define FRONDICARE_H
@@ -84,7 +93,7 @@ enum {
 
 /* What to do next. Fields that a kind doesn't use are 0. */
 typedef struct {
-    uint32_t kind;   /* one of these */
+    uint32_t kind;   /* FRONDICARE_STEP to FRONDICARE_FINISHED */
     uint32_t number; /* boot: why UPDATE was passed over, 0 for none; refused: why */
     uint32_t op;     /* step: erase, copy, byte or mark */
     uint32_t value;  /* byte: its value */
@@ -118,7 +127,7 @@ uint32_t frondicare_verify(const uint8_t *image, size_t image_len, bool signatur
 /* The first tag of a type in a header; of a longer slice, such as an image, the first 256 bytes are
  * read. Types: version 0x0001, timestamp 0x0002, digest 0x0003, key hint 0x0010, signature 0x0020,
  * firmware type 0x0030. A tag of length 0 is found too. The image is not verified.
- * 10: shorter than 256; 13: a tag before it passes 256; 25: absent. */
+ * 10: shorter than 256; 13: a tag passes 256 before a match is met; 25: absent. */
 frondicare_tag frondicare_find_tag(const uint8_t *header, size_t header_len, uint16_t type);
 
 /* The digest to be signed of an image that is yet to be written. custom is a run of custom tags, at
@@ -182,7 +191,7 @@ frondicare_answer frondicare_confirm(const uint8_t *flash, size_t flash_len,
                                      size_t boot, size_t update, size_t swap);
 
 /* Decides and carries out up to number steps, 0 to 4096, and adds each to the record as it is done. It
- * ends at a boot, after a last step at once and with number 0; at a refusal; or with the number used
+ * ends at a boot, which follows a last step at once with no reason; at a refusal; or with the number used
  * up, and then answers the step that is due, which is not done. boot_signed and update_signed are those
  * at the start. Boot and refused as for frondicare_next_step. Refused before the first step: 1 to 4 as
  * above; 29: number is above 4096; 28: a counter is above 4,294,963,199. */

@@ -3,6 +3,7 @@ mod faults;
 mod sectors;
 mod slot_images;
 mod slot_trailers;
+mod under_way;
 
 use crate::decisions::Signed;
 use crate::flash::{Geometry, Slot};
@@ -57,6 +58,15 @@ pub fn any(random: &mut Random) -> Board {
     }
     for _ in 0..random.up_to(99).saturating_sub(93).min(2) {
         layouts::disturb(random, &mut board.geometry);
+    }
+    board
+}
+
+/// With any answers of the checker; at times in the middle of an update that nothing disturbed.
+pub fn for_a_run(random: &mut Random) -> Board {
+    let mut board = if random.percent(30) { under_way::any(random) } else { any(random) };
+    if random.percent(50) {
+        board.signed = Signed { boot: random.percent(50), update: random.percent(50) };
     }
     board
 }

@@ -6,6 +6,7 @@ use crate::header;
 use crate::trailers::{flag_step, image, progress, renewal, sound_with, state_place, SPENT, TESTING, UPDATING};
 
 /// What the signature checker said of each slot.
+#[repr(C)]
 #[derive(Clone, Copy, Debug)]
 pub struct Signed {
     pub boot: bool,

@@ -6,6 +6,7 @@ use std::ops::Range;
 pub const CLOSING: [u8; 4] = [0x42, 0x4f, 0x4f, 0x54];
 
 /// Where the areas lie, as a caller gives it.
+#[repr(C)]
 #[derive(Clone, Copy, Debug)]
 pub struct Geometry {
     pub sector_size: usize,

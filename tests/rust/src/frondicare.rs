@@ -1,87 +1,28 @@
-//! The C entries, as include/frondicare.h declares them. A slice is a pointer and then a length.
+//! The entries on messages, headers, images and steps, called on slices.
+use crate::entries::*;
 use crate::flash::Geometry;
 use crate::raw_step::RawStep;
-use crate::writer::{Fields, Parts};
-
-/// What a lookup answers: where the content lies, or a number and 0, 0.
-#[repr(C)]
-#[derive(Clone, Copy, Debug, PartialEq)]
-pub struct Tag {
-    pub number: u32,
-    pub at: usize,
-    pub len: usize,
-}
-
-extern "C" {
-    fn frondicare_digest(message: *const u8, length: usize, digest: *mut u8) -> u32;
-    fn frondicare_digest_of_two(
-        first: *const u8,
-        first_length: usize,
-        second: *const u8,
-        second_length: usize,
-        digest: *mut u8,
-    ) -> u32;
-    fn frondicare_verify(image: *const u8, image_len: usize, signature_ok: bool) -> u32;
-    fn frondicare_find_tag(header: *const u8, header_len: usize, kind: u16) -> Tag;
-    fn frondicare_digest_to_sign(
-        fields: Fields,
-        firmware: *const u8,
-        firmware_len: usize,
-        custom: *const u8,
-        custom_len: usize,
-        hint: *const u8,
-        digest: *mut u8,
-    ) -> u32;
-    fn frondicare_write_header(
-        buffer: *mut u8,
-        buffer_len: usize,
-        fields: Fields,
-        firmware: *const u8,
-        firmware_len: usize,
-        custom: *const u8,
-        custom_len: usize,
-        hint: *const u8,
-        signature: *const u8,
-    ) -> u32;
-    fn frondicare_check_geometry(
-        flash_len: usize,
-        sector_size: usize,
-        sector_count: usize,
-        boot: usize,
-        update: usize,
-        swap: usize,
-    ) -> u32;
-    fn frondicare_apply_step(
-        flash: *mut u8,
-        flash_len: usize,
-        sector_size: usize,
-        sector_count: usize,
-        boot: usize,
-        update: usize,
-        swap: usize,
-        op: u32,
-        at: usize,
-        to: usize,
-        value: u32,
-    ) -> u32;
-}
+use crate::writer::Parts;
 
 /// What a buffer holds before a call, so that a test sees whether it was written.
 pub const PAINT: u8 = 0xa5;
 pub const UNTOUCHED: [u8; 32] = [PAINT; 32];
 
+fn raw(slice: &[u8]) -> (*const u8, usize) {
+    (slice.as_ptr(), slice.len())
+}
+
 /// The number answered and the buffer afterwards.
 pub fn digest(message: &[u8]) -> (u32, [u8; 32]) {
     let mut out = UNTOUCHED;
-    let number = unsafe { frondicare_digest(message.as_ptr(), message.len(), out.as_mut_ptr()) };
+    let number = unsafe { frondicare_digest(message.as_ptr(), message.len(), &mut out) };
     (number, out)
 }
 
 pub fn digest_of_two(first: &[u8], second: &[u8]) -> (u32, [u8; 32]) {
     let mut out = UNTOUCHED;
-    let number = unsafe {
-        frondicare_digest_of_two(first.as_ptr(), first.len(), second.as_ptr(), second.len(), out.as_mut_ptr())
-    };
+    let number =
+        unsafe { frondicare_digest_of_two(first.as_ptr(), first.len(), second.as_ptr(), second.len(), &mut out) };
     (number, out)
 }
 
@@ -96,39 +37,19 @@ pub fn find_tag(header: &[u8], kind: u16) -> Tag {
 /// The number answered and the buffer afterwards.
 pub fn digest_to_sign(parts: &Parts) -> (u32, [u8; 32]) {
     let Parts { fields, firmware, custom, hint } = *parts;
-    let mut out = UNTOUCHED;
-    let number = unsafe {
-        frondicare_digest_to_sign(
-            fields,
-            firmware.as_ptr(),
-            firmware.len(),
-            custom.as_ptr(),
-            custom.len(),
-            hint.as_ptr(),
-            out.as_mut_ptr(),
-        )
-    };
+    let ([(f, f_len), (c, c_len)], mut out) = ([firmware, custom].map(raw), UNTOUCHED);
+    let number = unsafe { frondicare_digest_to_sign(fields, f, f_len, c, c_len, hint, &mut out) };
     (number, out)
 }
 
 /// The number answered and the buffer afterwards.
 pub fn write_header(buffer_len: usize, parts: &Parts, signature: &[u8; 64]) -> (u32, Vec<u8>) {
     let Parts { fields, firmware, custom, hint } = *parts;
+    let [(f, f_len), (c, c_len)] = [firmware, custom].map(raw);
     // Bytes that are not lent follow the buffer, and have to stay.
     let mut out = vec![PAINT; buffer_len + 64];
-    let number = unsafe {
-        frondicare_write_header(
-            out.as_mut_ptr(),
-            buffer_len,
-            fields,
-            firmware.as_ptr(),
-            firmware.len(),
-            custom.as_ptr(),
-            custom.len(),
-            hint.as_ptr(),
-            signature.as_ptr(),
-        )
-    };
+    let buffer = out.as_mut_ptr();
+    let number = unsafe { frondicare_write_header(buffer, buffer_len, fields, f, f_len, c, c_len, hint, signature) };
     assert!(out[buffer_len..].iter().all(|&byte| byte == PAINT), "bytes after the buffer were written");
     out.truncate(buffer_len);
     (number, out)

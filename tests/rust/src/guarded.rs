@@ -1,7 +1,7 @@
 //! A flash on which the library and the plain implementation decide the same and carry out the same steps.
 use crate::answers::{Answer, RawAnswer};
 use crate::decisions::{self, Signed};
-use crate::flash::{self, Geometry};
+use crate::flash::Geometry;
 use crate::frondicare::{self, PAINT};
 use crate::raw_step::RawStep;
 use crate::runs::{self, Counts};
@@ -9,14 +9,6 @@ use crate::{loader, requests, runner};
 
 /// Bytes before and after a flash that are not lent: more than a sector.
 const GUARD: usize = 4096 + 64;
-
-fn plain_apply(flash: &mut [u8], geometry: &Geometry, step: RawStep) -> u32 {
-    let answer = match step.step() {
-        Some(step) => flash::apply(flash, geometry, step),
-        None => geometry.areas(flash.len()).and(Err(24)),
-    };
-    answer.err().unwrap_or(0)
-}
 
 /// A flash with bytes around it that have to stay.
 pub struct Guarded {
@@ -53,7 +45,7 @@ impl Guarded {
     pub fn apply(&mut self, geometry: &Geometry, step: impl Into<RawStep>) -> u32 {
         let (step, before) = (step.into(), self.bytes.clone());
         let mut expected = before.clone();
-        let number = plain_apply(&mut expected[self.start..][..self.len], geometry, step);
+        let number = step.apply(&mut expected[self.start..][..self.len], geometry);
         let answer = frondicare::apply_step(self.lent(), geometry, step);
         assert_eq!(answer, number, "{geometry:?}, flash of {}, {step:?}", self.len);
         assert!(

@@ -1,9 +1,11 @@
 //! The static library seen from Rust, an independent implementation to hold it to, and random input for both.
 pub mod answers;
 pub mod boards;
+pub mod custom_runs;
 pub mod cuts;
 pub mod damage;
 pub mod decisions;
+pub mod entries;
 pub mod flash;
 pub mod frondicare;
 pub mod guarded;

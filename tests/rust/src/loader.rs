@@ -1,39 +1,8 @@
-//! The loader's C entries, as include/frondicare.h declares them.
+//! The loader's entries, called on slices.
 use crate::answers::RawAnswer;
 use crate::decisions::Signed;
+use crate::entries::{frondicare_confirm, frondicare_next_step, frondicare_trigger};
 use crate::flash::Geometry;
-
-extern "C" {
-    fn frondicare_next_step(
-        flash: *const u8,
-        flash_len: usize,
-        sector_size: usize,
-        sector_count: usize,
-        boot: usize,
-        update: usize,
-        swap: usize,
-        boot_signed: bool,
-        update_signed: bool,
-    ) -> RawAnswer;
-    fn frondicare_trigger(
-        flash: *const u8,
-        flash_len: usize,
-        sector_size: usize,
-        sector_count: usize,
-        boot: usize,
-        update: usize,
-        swap: usize,
-    ) -> RawAnswer;
-    fn frondicare_confirm(
-        flash: *const u8,
-        flash_len: usize,
-        sector_size: usize,
-        sector_count: usize,
-        boot: usize,
-        update: usize,
-        swap: usize,
-    ) -> RawAnswer;
-}
 
 pub fn next_step(flash: &[u8], geometry: &Geometry, signed: Signed) -> RawAnswer {
     let Geometry { sector_size, sector_count, boot, update, swap } = *geometry;

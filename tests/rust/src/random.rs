@@ -8,6 +8,10 @@ impl Random {
             Err(_) => std::time::SystemTime::now().duration_since(std::time::UNIX_EPOCH).unwrap().as_nanos() as u64,
         };
         println!("{}: SEED={seed}", crate::test_name());
+        Random::seeded(seed)
+    }
+
+    pub fn seeded(seed: u64) -> Random {
         Random(seed)
     }
 

@@ -1,6 +1,7 @@
 //! A step as C passes it: numbers, of which each kind uses some. The others are ignored.
-use crate::flash::Step;
+use crate::flash::{self, Geometry, Step};
 
+#[repr(C)]
 #[derive(Clone, Copy, Debug)]
 pub struct RawStep {
     pub op: u32,
@@ -32,5 +33,14 @@ impl RawStep {
             3 => Some(Step::Mark { at }),
             _ => None,
         }
+    }
+
+    /// Carries it out. Numbers 1 to 4, then 24; a refusal leaves the flash as it is.
+    pub fn apply(self, flash: &mut [u8], geometry: &Geometry) -> u32 {
+        let answer = match self.step() {
+            Some(step) => flash::apply(flash, geometry, step),
+            None => geometry.areas(flash.len()).and(Err(24)),
+        };
+        answer.err().unwrap_or(0)
     }
 }

@@ -1,26 +1,10 @@
-//! The runner's C entries, as include/frondicare.h declares them.
+//! The runner's entries, called on slices.
 use crate::answers::RawAnswer;
 use crate::decisions::Signed;
+use crate::entries::{frondicare_add_step, frondicare_run};
 use crate::flash::Geometry;
 use crate::frondicare::PAINT;
 use crate::runs::Counts;
-
-extern "C" {
-    fn frondicare_run(
-        flash: *mut u8,
-        flash_len: usize,
-        sector_size: usize,
-        sector_count: usize,
-        boot: usize,
-        update: usize,
-        swap: usize,
-        boot_signed: bool,
-        update_signed: bool,
-        number: u32,
-        counts: *mut Counts,
-    ) -> RawAnswer;
-    fn frondicare_add_step(counts: *mut Counts, op: u32) -> u32;
-}
 
 const GUARD: usize = 64;
 

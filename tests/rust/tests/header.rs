@@ -1,5 +1,6 @@
 //! The library's verdict and lookup against the plain ones, on random and damaged images.
-use frondicare_tests::frondicare::{self, Tag};
+use frondicare_tests::entries::Tag;
+use frondicare_tests::frondicare;
 use frondicare_tests::header::{self, DIGEST, FIRMWARE_TYPE, MANDATORY, SIGNATURE, SIZE, TIMESTAMP, VERSION};
 use frondicare_tests::images::{self, SPECIAL_TYPES};
 use frondicare_tests::random::Random;

@@ -1,35 +1,11 @@
 //! The library's run and its record of finished steps against the plain ones.
 use frondicare_tests::answers::answer_kind;
 use frondicare_tests::boards::{self, Board};
-use frondicare_tests::decisions::Signed;
 use frondicare_tests::guarded::Guarded;
 use frondicare_tests::random::Random;
 use frondicare_tests::runner;
 use frondicare_tests::runs::{self, Counts, MOST_COUNT, MOST_STEPS};
 use frondicare_tests::seen::Seen;
-use frondicare_tests::staged::{self, Staged};
-
-const BOTH: Signed = Signed { boot: true, update: true };
-
-/// A board of demand 3 in the middle of its update or of the return, with any answers of the checker.
-fn under_way(random: &mut Random) -> Board {
-    let n = 2 + random.up_to(3);
-    let Staged { geometry, mut flash } = staged::any(random, (256, n));
-    for _ in 0..random.up_to(1) {
-        runs::run(&mut flash, &geometry, BOTH, MOST_STEPS, &mut Counts::default());
-    }
-    let number = random.up_to(9 * n + 4) as u32;
-    runs::run(&mut flash, &geometry, BOTH, number, &mut Counts::default());
-    Board { geometry, flash, signed: BOTH }
-}
-
-fn any_board(random: &mut Random) -> Board {
-    let mut board = if random.percent(30) { under_way(random) } else { boards::any(random) };
-    if random.percent(50) {
-        board.signed = Signed { boot: random.percent(50), update: random.percent(50) };
-    }
-    board
-}
 
 /// Mostly enough for a run to its end, or few; at times too large by one, by a bit, or by far.
 fn any_number(random: &mut Random) -> u32 {
@@ -77,7 +53,7 @@ fn any_run() {
     let mut random = Random::new();
     let [mut at_once, mut later, mut refused]: [Seen<String>; 3] = Default::default();
     for _ in 0..60_000 {
-        let board = any_board(&mut random);
+        let board = boards::for_a_run(&mut random);
         let mut flash = Guarded::new(&board.flash, random.up_to(15));
         for _ in 0..2 {
             let (number, before) = (any_number(&mut random), any_counts(&mut random));

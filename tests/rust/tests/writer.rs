@@ -1,11 +1,11 @@
 //! The library's writer against the plain one, and what it wrote against verdict and lookup.
-use frondicare_tests::frondicare::{self, Tag, PAINT, UNTOUCHED};
+use frondicare_tests::entries::Tag;
+use frondicare_tests::frondicare::{self, PAINT, UNTOUCHED};
 use frondicare_tests::header::{DIGEST, FIRMWARE_TYPE, HINT, SIGNATURE, SIZE, TIMESTAMP, VERSION};
-use frondicare_tests::hex;
-use frondicare_tests::images::{self, SPECIAL_TYPES};
 use frondicare_tests::random::Random;
 use frondicare_tests::seen::Seen;
-use frondicare_tests::writer::{self, Fields, Parts, MOST_CUSTOM, MOST_FIRMWARE, NAMED};
+use frondicare_tests::writer::{self, Fields, Parts, MOST_CUSTOM, MOST_FIRMWARE};
+use frondicare_tests::{custom_runs, hex, images};
 
 struct Case {
     buffer_len: usize,
@@ -22,25 +22,8 @@ impl Case {
     }
 }
 
-/// One fault: cut or too long, a type that is not free, or padding in front, between or behind.
-fn damage(random: &mut Random, run: &mut Vec<u8>) {
-    match random.up_to(5) {
-        0 => run.truncate(random.up_to(run.len())),
-        1 => run.resize(MOST_CUSTOM + 1 + random.up_to(3) * random.up_to(100), random.one_of(&[0xff, 0x00])),
-        2 => run.insert(random.up_to(run.len()), random.one_of(&[0xff, 0x00])),
-        3 if run.len() > 1 => run[..2].copy_from_slice(&random.one_of(&NAMED).to_le_bytes()),
-        4 if run.len() > 1 => run[..2].copy_from_slice(&random.one_of(&SPECIAL_TYPES).to_le_bytes()),
-        _ if run.len() > 3 => run[2] ^= 1 << random.up_to(7),
-        _ => run.push(random.next() as u8),
-    }
-}
-
 fn any_case(random: &mut Random) -> Case {
-    let most = random.one_of(&[MOST_CUSTOM, MOST_CUSTOM, MOST_CUSTOM + 1, 200]);
-    let mut custom = images::custom_run(random, most);
-    if random.percent(40) {
-        damage(random, &mut custom);
-    }
+    let custom = custom_runs::any(random);
     let n = if random.percent(10) { 0 } else { random.up_to(2000) };
     Case {
         buffer_len: if random.percent(90) { SIZE } else { random.one_of(&[0, 1, 255, 257, 300, 512]) },

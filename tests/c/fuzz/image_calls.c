@@ -1,0 +1,63 @@
+#include "fuzz.h"
+#include "lent.h"
+#include "plain.h"
+#include "random.h"
+#include <string.h>
+
+enum { MOST_IMAGE = 4096, HEADER = 256 };
+
+static lent image;
+
+void open_images(void)
+{
+    lent_open(&image, "image", MOST_IMAGE);
+}
+
+static size_t noise(uint8_t *room)
+{
+    size_t len = up_to(percent(50) ? 300 : MOST_IMAGE);
+    any_bytes(room, len);
+    return len;
+}
+
+/* Well formed, damaged, noise, or longer than 4 GiB. */
+static readable any_image(void)
+{
+    static uint8_t room[MOST_IMAGE];
+    size_t len = percent(5) ? noise(room) : plain_random_image(random_next(), room, sizeof room);
+    memcpy(percent(98) ? lend(&image, len) : lend_far(&image, len, FAR), room, len);
+    return to_read(&image);
+}
+
+void call_verify(void)
+{
+    readable i = any_image();
+    bool signature_ok = percent(80);
+    same_number(frondicare_verify(i.at, i.len, signature_ok), plain_verify(i.at, i.len, signature_ok));
+}
+
+/* One that is named, one that stands somewhere in the header, or any. */
+static uint16_t any_type(readable header)
+{
+    static const uint16_t named[] = { 0x0001, 0x0002, 0x0003, 0x0010, 0x0020, 0x0030 };
+    size_t place = up_to(HEADER - 2);
+    uint16_t any = (uint16_t)random_next();
+    if (percent(50))
+        return named[up_to(sizeof named / sizeof *named - 1)];
+    if (percent(50) && header.len >= HEADER)
+        return (uint16_t)(header.at[place] | header.at[place + 1] << 8);
+    return percent(30) ? any & 0xff : any;
+}
+
+void call_find_tag(void)
+{
+    readable h = any_image();
+    uint16_t type = any_type(h);
+    frondicare_tag tag = frondicare_find_tag(h.at, h.len, type), expected = plain_find_tag(h.at, h.len, type);
+    if (tag.at != expected.at || tag.len != expected.len)
+        fail("type %04x of %zu bytes: at %zu, length %zu, not %zu, %zu", type, h.len, tag.at, tag.len, expected.at,
+             expected.len);
+    if (tag.number != 0 && (tag.at != 0 || tag.len != 0))
+        fail("type %04x of %zu bytes: refused, with a place", type, h.len);
+    same_number(tag.number, expected.number);
+}

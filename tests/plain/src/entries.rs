@@ -1,0 +1,83 @@
+//! Entries on messages, headers and images.
+use frondicare_tests::entries::Tag;
+use frondicare_tests::writer::{Fields, Parts};
+use frondicare_tests::{header, sha256, writer};
+use std::slice::{from_raw_parts, from_raw_parts_mut};
+
+/// The longest message that has a digest.
+const MOST: usize = u32::MAX as usize;
+
+/// Stores a digest and gives 0, or gives its number.
+fn store(answer: Result<[u8; 32], u32>, digest: &mut [u8; 32]) -> u32 {
+    match answer {
+        Ok(bytes) => *digest = bytes,
+        Err(number) => return number,
+    }
+    0
+}
+
+#[no_mangle]
+unsafe extern "C" fn plain_digest(message: *const u8, message_len: usize, digest: &mut [u8; 32]) -> u32 {
+    if message_len > MOST {
+        return 12;
+    }
+    store(Ok(sha256::digest(from_raw_parts(message, message_len))), digest)
+}
+
+#[no_mangle]
+unsafe extern "C" fn plain_digest_of_two(
+    first: *const u8,
+    first_len: usize,
+    second: *const u8,
+    second_len: usize,
+    digest: &mut [u8; 32],
+) -> u32 {
+    if first_len + second_len > MOST {
+        return 12;
+    }
+    let pieces = (from_raw_parts(first, first_len), from_raw_parts(second, second_len));
+    store(Ok(sha256::digest_of_two(pieces.0, pieces.1)), digest)
+}
+
+#[no_mangle]
+unsafe extern "C" fn plain_verify(image: *const u8, image_len: usize, signature_ok: bool) -> u32 {
+    header::verify(from_raw_parts(image, image_len), signature_ok).err().unwrap_or(0)
+}
+
+#[no_mangle]
+unsafe extern "C" fn plain_find_tag(header: *const u8, header_len: usize, kind: u16) -> Tag {
+    match header::find_tag(from_raw_parts(header, header_len), kind) {
+        Ok(header::Tag { at, len, .. }) => Tag { number: 0, at, len },
+        Err(number) => Tag { number, at: 0, len: 0 },
+    }
+}
+
+/// An entry of the writer, which takes the parts of an image.
+macro_rules! writing {
+    (fn $name:ident($($before:ident: $first:ty,)* ..$parts:ident, $after:ident: $last:ty) $body:block) => {
+        #[no_mangle]
+        unsafe extern "C" fn $name(
+            $($before: $first,)*
+            fields: Fields,
+            firmware: *const u8, firmware_len: usize, custom: *const u8, custom_len: usize, hint: &[u8; 32],
+            $after: $last,
+        ) -> u32 {
+            let (firmware, custom) = (from_raw_parts(firmware, firmware_len), from_raw_parts(custom, custom_len));
+            let $parts = Parts { fields, firmware, custom, hint };
+            $body
+        }
+    };
+}
+
+writing! {
+    fn plain_digest_to_sign(..parts, digest: &mut [u8; 32]) {
+        store(writer::digest_to_sign(&parts), digest)
+    }
+}
+
+writing! {
+    fn plain_write_header(buffer: *mut u8, buffer_len: usize, ..parts, signature: &[u8; 64]) {
+        let buffer = from_raw_parts_mut(buffer, buffer_len);
+        writer::write_header(buffer, &parts, signature).err().unwrap_or(0)
+    }
+}
