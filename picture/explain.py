@@ -1,0 +1,62 @@
+#!/usr/bin/env python3
+"""The simulator's output with plain words beside it, and what the board was before.
+Usage: simulator < BOARD | explain.py BOARD"""
+import sys
+from pathlib import Path
+
+sys.dont_write_bytecode = True
+sys.path.append(str(Path(__file__).resolve().parents[1] / "tests/vectors"))
+from board import board_of
+from flash_rules import BOOT, CLOSING, UPDATE, flags
+from loader_rules import SPENT, UPDATING, verdict, version
+from places import state_at
+from words import FLAGS, NAMES, REASONS, state_text, step_text
+
+
+def image_text(g, flash, slot):
+    number = verdict(g, flash, (True, True), slot)
+    return f"version {version(g, flash, slot)}" if number == 0 else f"no whole image, {REASONS[number]}"
+
+
+def trailer_text(g, flash, slot):
+    """The flags count only in an UPDATE that is sound with 70."""
+    state, *closing = flash[state_at(g, slot):g.trailer(slot).stop]
+    if bytes(closing) != CLOSING:
+        return "no sound trailer"
+    text = f"trailer {state_text(state)}"
+    if (slot, state) != (UPDATE, UPDATING):
+        return text
+    return f"{text}, sectors {', '.join(FLAGS.get(flag, 'unknown') for flag in flags(g, flash))}"
+
+
+def describe(board):
+    g, flash, _ = board
+    for slot in BOOT, UPDATE:
+        print(f"{NAMES[slot]}: {image_text(g, flash, slot)}; {trailer_text(g, flash, slot)}")
+    words = [f"{NAMES[slot]} {'yes' if board.signed(slot) else 'no'}" for slot in (BOOT, UPDATE)]
+    print("signature checker:", ", ".join(words))
+
+
+def end_text(g, word, number, last):
+    if word == "REFUSE":
+        return f"refused: {REASONS[number]}"
+    if last == ["B", state_at(g, UPDATE), SPENT]:
+        return f"boots version {number} on trial: not confirmed, it is exchanged back at the next start"
+    return f"boots version {number}"
+
+
+def main():
+    board = board_of(Path(sys.argv[1]).read_bytes())
+    g = board and board.geometry
+    if board is not None:
+        describe(board)
+    step = None
+    for line in sys.stdin.read().splitlines():
+        letter, *numbers = line.split()
+        numbers = [int(number) for number in numbers]
+        text = step_text(g, letter, *numbers) if len(letter) == 1 else end_text(g, letter, *numbers, step)
+        print(f"{line:<14}{text}")
+        step = [letter, *numbers]
+
+
+main()

@@ -1,0 +1,65 @@
+"""What is found in the end: each sentence from the flashes and from what the simulator printed, none assumed."""
+from flash_rules import BOOT, UPDATE, sound_with
+from images import area_sectors
+from loader_rules import SUCCESS, TESTING, verdict, version
+from words import NAMES, REASONS, STATES
+
+
+def counted(number, word):
+    return f"{number} {word}" if number == 1 else f"{number} {word}{'es' if word.endswith('s') else 's'}"
+
+
+def end_text(g, power_up):
+    """How a power-up ended that was not cut."""
+    word, number = power_up.end
+    if word == "REFUSE":
+        return f"refused: {REASONS[number]}"
+    states = [STATES[state] for state in (TESTING, SUCCESS) if sound_with(g, power_up.flash, BOOT, state)]
+    return " ".join([f"boots version {number}", *states])
+
+
+def slot_text(board, images, slot):
+    """What a slot holds, and from which slot it came."""
+    g, flash, _ = board
+    number = verdict(g, flash, (board.signed(BOOT), board.signed(UPDATE)), slot)
+    text = f"version {version(g, flash, slot)}, whole" if number == 0 else f"does not pass, {REASONS[number]}"
+    origins = [NAMES[i] for i, image in enumerate(images) if image.sectors == area_sectors(g, flash, slot)]
+    came = f"every byte from {origins[0] if len(origins) == 1 else 'either'}" if origins else "other bytes than found"
+    return f"{NAMES[slot]}: {text}; {came}"
+
+
+def outside(g, flash):
+    """The bytes outside the three areas."""
+    kept, start = b"", 0
+    for area in sorted(g.areas(), key=lambda area: area.start):
+        kept, start = kept + flash[start:area.start], area.stop
+    return kept + flash[start:]
+
+
+def outside_text(g, flashes):
+    first, *others = [outside(g, flash) for flash in flashes]
+    if not first:
+        return "nothing lies outside the three areas"
+    changed = any(other != first for other in others)
+    return f"{'bytes' if changed else 'nothing'} outside the three areas changed"
+
+
+def steps_text(history):
+    rows, cuts = history.rows(), sum(row.cut for row in history.rows())
+    text = f"{counted(len(rows), 'step')} begun" if rows else "no step is due"
+    if cuts == 0:
+        return f"{text}, no power loss"
+    mended = cuts - len(history.unmended)
+    return f"{text}, {counted(cuts, 'power loss')}, {'mended' if mended == cuts else f'{mended} mended'}"
+
+
+def findings_of(history, images):
+    """The first sentence says how it ended."""
+    board, g = history.board, history.board.geometry
+    return [
+        end_text(g, history.power_ups[-1]),
+        slot_text(board, images, BOOT),
+        slot_text(board, images, UPDATE),
+        steps_text(history),
+        outside_text(g, [row.flash for row in (history.as_found(), *history.rows())]),
+    ]

@@ -1,0 +1,71 @@
+"""The two images of a board, which the picture follows: the slots' images, in mid-swap those before that swap."""
+from typing import NamedTuple
+
+import header_rules
+from flash_rules import BOOT, UPDATE, Refused, progress, sound_with
+from loader_rules import UPDATING
+from places import SWAP
+from words import NAMES, REASONS
+
+
+class Image(NamedTuple):
+    """Its name in a drawing, a name of one character, what it is, and its sectors."""
+    name: str
+    mark: str
+    text: str
+    sectors: list
+
+
+def area_sectors(g, flash, area):
+    """A slot's sectors without the trailer, or SWAP's only one."""
+    start, count = g.areas()[area].start, 1 if area == SWAP else g.n
+    return [flash[at:at + g.z] for at in range(start, start + count * g.z, g.z)]
+
+
+def before_swap(g, flash):
+    """The sectors of BOOT's image and of UPDATE's. A flag says where those of its sector lie."""
+    boot, update = area_sectors(g, flash, BOOT), area_sectors(g, flash, UPDATE)
+    try:
+        i, stage = divmod(progress(g, flash), 3)
+    except Refused:
+        return boot, update
+    if not sound_with(g, flash, UPDATE, UPDATING):
+        return boot, update
+    from_boot, from_update = update[:i] + boot[i:], boot[:i] + update[i:]
+    if stage > 0:
+        [from_update[i]] = area_sectors(g, flash, SWAP)
+    if stage == 2:
+        from_boot[i] = update[i]
+    return from_boot, from_update
+
+
+def version_of(sectors):
+    """None where the header fails one of the checks 11 to 16."""
+    try:
+        return header_rules.version(b"".join(sectors))
+    except header_rules.Refused:
+        return None
+
+
+def verdict_of(sectors):
+    """0 where the image passes, the signature aside."""
+    try:
+        header_rules.verify(b"".join(sectors), True)
+    except header_rules.Refused as refused:
+        return refused.args[0]
+    return 0
+
+
+def image(slot, sectors, other):
+    """Named by its version where that is short and not the other's too."""
+    number, letter, refused = version_of(sectors), "AB"[slot], verdict_of(sectors)
+    telling = number is not None and number != version_of(other)
+    name = f"v{number}" if telling and number < 1000 else letter
+    mark = str(number) if telling and number < 10 else letter
+    text = f"{NAMES[slot]}'s bytes" if number is None else f"version {number} from {NAMES[slot]}"
+    return Image(name, mark, text if refused == 0 else f"{text}, {REASONS[refused]}", sectors)
+
+
+def images_of(g, flash):
+    boot, update = before_swap(g, flash)
+    return image(BOOT, boot, update), image(UPDATE, update, boot)

@@ -1,0 +1,116 @@
+"""One row of the SVG: a step in words, the cells after it, what it wrote and where a copy came from."""
+from itertools import groupby
+
+from captions import mended_text, row_text
+from contents import BLANK, FROM_BOOT, FROM_UPDATE, OTHER, SAME, content_text, contents_of
+from flash_rules import BOOT, UPDATE
+from places import FLAG, SWAP, cell_read, cell_written
+from words import FLAGS, NAMES
+
+# The lane for an arrow, then the cells.
+LANE, CELL = 9, 19
+ROW = LANE + CELL + 2
+
+
+def fits(label, width):
+    """The widest letters are those of the label's monospace font."""
+    return 7.3 * len(label) + 2 <= width
+
+
+def runs(values, together, written):
+    """Equal neighbours, or each by itself: where a run begins, how long it is, and its value. What the step wrote is
+    always by itself."""
+    keys = [(value, 0 if together and i != written else i + 1) for i, value in enumerate(values)]
+    lengths = [len(list(run)) for _, run in groupby(keys)]
+    begins = [sum(lengths[:i]) for i in range(len(lengths))]
+    return [(begin, length, values[begin]) for begin, length in zip(begins, lengths)]
+
+
+def numbered(words, begin, length):
+    return f"{words} {begin}" if length == 1 else f"{words}s {begin} to {begin + length - 1}"
+
+
+class RowDrawing:
+    def __init__(self, page, columns, g, images):
+        self.page, self.columns, self.g, self.images = page, columns, g, images
+        self.labels = {FROM_BOOT: images[0].name, FROM_UPDATE: images[1].name, SAME: "=", BLANK: "blank", OTHER: "?"}
+        # Names that do not fit a sector, or a flag, are written over all neighbours that are equal.
+        self.sectors_together = not all(fits(image.name, columns.sector) for image in images)
+        self.flags_together = not fits("F", columns.flag)
+
+    def box(self, kind, area, begin, length, y, title, label, style):
+        x, width = self.columns.cell(area, begin)
+        width = width * length - 1
+        self.page.rect(kind, x, y + LANE, width, CELL, title)
+        if label and (area == SWAP or begin == self.g.n or fits(label, width)):
+            self.page.text(style, x + width / 2, y + LANE + 14, label)
+
+    def sector(self, area, begin, length, content, y, title, label):
+        """Halves that differ are drawn apart, with a tear between them."""
+        if not content.halves:
+            self.box(content.kind, area, begin, length, y, title, label, self.sector_style(content.kind))
+            return
+        x, width = self.columns.cell(area, begin)
+        half = (width - 1) / 2
+        for i, kind in enumerate(content.halves):
+            self.page.rect(kind, x + i * half, y + LANE, half, CELL, title if i == 0 else None)
+        self.page.path("tear", f"M{x + half} {y + LANE - 2}l2.5 6l-5 5l5 5l-2.5 7")
+
+    def slot(self, contents, slot, written, y):
+        plain = [content._replace(sector=0) for content in contents.slots[slot]]
+        for begin, length, content in runs(plain, self.sectors_together, written.get(slot)):
+            title = f"{numbered(f'{NAMES[slot]} sector', begin, length)}: {content_text(content, self.images)}"
+            self.sector(slot, begin, length, content, y, title, self.labels[content.kind])
+        trailer = contents.trailers[slot]
+        kind = "blank" if trailer.blank else "sound" if trailer.sound else "open"
+        self.box(kind, slot, self.g.n, 1, y, f"{NAMES[slot]}'s trailer: {trailer.text()}", trailer.text(), "state")
+
+    def sector_style(self, kind):
+        return "state faint" if kind == BLANK else "label"
+
+    def flag_style(self, flag):
+        """Light letters on the dark kinds."""
+        return "flag light" if flag in "03" else "flag"
+
+    def flags(self, contents, written, y):
+        for begin, length, flag in runs(contents.flags, self.flags_together, written.get(FLAG)):
+            kind = f"flag{flag:X}" if flag in FLAGS else "other"
+            title = f"flag of {numbered('sector', begin, length)}: {flag:X} {FLAGS.get(flag, 'unknown')}"
+            self.box(kind, FLAG, begin, length, y, title, f"{flag:X}", self.flag_style(f"{flag:X}"))
+
+    def swap(self, content, y):
+        label = self.labels[content.kind]
+        label = label if content.kind in (BLANK, OTHER) else f"{label}:{content.sector}"
+        title = f"{NAMES[SWAP]}: {content_text(content, self.images, numbered=True)}"
+        self.sector(SWAP, 0, 1, content, y, title, label)
+
+    def step(self, step, y):
+        """What it wrote is framed; an arrow leads from what it copied."""
+        area, i = cell_written(self.g, step)
+        x, width = self.columns.cell(area, i)
+        self.page.rect("written", x - 1, y + LANE - 1, width + 1, CELL + 2)
+        source = cell_read(self.g, step)
+        if source is not None:
+            start, end, top = self.columns.middle(*source), self.columns.middle(area, i), y + LANE
+            self.page.path("arrow", f"M{start} {top}V{y + 3}H{end}V{top - 4}")
+            self.page.path("head", f"M{end} {top - 1}l-3.5 -5h7z")
+
+    def words(self, row, y):
+        if row.number:
+            self.page.text("number", self.columns.number, y, str(row.number))
+        words = self.page.text("loss" if row.cut else "words", self.columns.words, y, row_text(self.g, row))
+        if mended_text(row):
+            self.page.add("tspan", "mended", mended_text(row), parent=words)
+
+    def draw(self, row, y):
+        contents = contents_of(self.g, row.flash, self.images)
+        written = dict([cell_written(self.g, row.step)] if row.step else [])
+        self.page.open("row")
+        self.words(row, y + LANE + 14)
+        for slot in BOOT, UPDATE:
+            self.slot(contents, slot, written, y)
+        self.flags(contents, written, y)
+        self.swap(contents.swap, y)
+        if row.step is not None:
+            self.step(row.step, y)
+        self.page.close()

@@ -1,0 +1,53 @@
+"""Whether what a picture says in the end is so."""
+import re
+
+import header_rules
+from flash_rules import BOOT, UPDATE, image
+from rows import SLOTS, end_words, mends
+
+SLOT = re.compile(r"(BOOT|UPDATE): (version (\d+), whole|does not pass, .*); (.*)")
+STEPS = re.compile(r"(no step is due|(\d+) steps? begun), (no power loss|(\d+) power loss(?:es)?, (mended|\d+ mended))")
+
+
+def check_slot(expected, slot, line, images):
+    """images: of BOOT and of UPDATE before the swap that the board was in, None where they are not known."""
+    g, held = expected.geometry, image(expected.geometry, expected.rows[-1].flash, slot)
+    name, text, version, origin = SLOT.fullmatch(line).groups()
+    assert name == SLOTS[slot], line
+    try:
+        header_rules.verify(held, expected.answers >> slot & 1)
+        assert int(version) == header_rules.version(held), line
+    except header_rules.Refused:
+        assert version is None, line
+    if images is not None:
+        origins = [SLOTS[i] for i in (BOOT, UPDATE) if images[i].ljust(g.n * g.z, b"\xff") == held]
+        words = {0: "other bytes than found", 1: f"every byte from {''.join(origins)}", 2: "every byte from either"}
+        assert origin == words[len(origins)], line
+
+
+def check_steps(expected, line):
+    cuts, mended = sum(row.cut for row in expected.rows), [m for m in mends(expected.rows) if m is not None]
+    _, steps, loss, losses, healed = STEPS.fullmatch(line).groups()
+    assert int(steps or 0) == len(expected.rows) - 1, line
+    assert int(losses or 0) == cuts, line
+    assert cuts == 0 or healed == ("mended" if len(mended) == cuts else f"{len(mended)} mended"), line
+
+
+def outside(g, flash):
+    """Where the flash is not an area."""
+    for area in sorted(g.areas(), key=lambda area: -area.start):
+        flash = flash[:area.start] + flash[area.stop:]
+    return flash
+
+
+def check_closing(expected, findings, images):
+    g, flash = expected.geometry, expected.rows[-1].flash
+    end, boot, update, steps, around = findings
+    words = end_words(g, flash, expected.end)
+    assert end.startswith(words) and (words == "refused: " or end == words), end
+    check_slot(expected, BOOT, boot, images)
+    check_slot(expected, UPDATE, update, images)
+    check_steps(expected, steps)
+    first, last = outside(g, expected.rows[0].flash), outside(g, flash)
+    assert first == last
+    assert around == f"nothing {'outside the three areas changed' if first else 'lies outside the three areas'}", around

@@ -1,0 +1,47 @@
+"""The command itself: colours on a terminal only, words that examples/board has too, errors, the stored example."""
+import os
+import pty
+import re
+import subprocess
+
+CODES = re.compile(r"\x1b\[[0-9;]*m")
+
+
+def said(root, *words, status=0):
+    done = subprocess.run([root / "frondicare", "picture", *words], capture_output=True, text=True)
+    assert done.returncode == status, done
+    assert bool(done.stderr) == (status != 0) and "Traceback" not in done.stderr, done.stderr
+    return done.stdout
+
+
+def said_on_terminal(root, board, **environment):
+    master, slave = pty.openpty()
+    given = {name: value for name, value in os.environ.items() if name != "NO_COLOR"} | environment
+    with subprocess.Popen([root / "frondicare", "picture", board], stdout=slave, env=given) as command:
+        os.close(slave)
+        text = b""
+        try:
+            while data := os.read(master, 65536):
+                text += data
+        except OSError:
+            pass
+    os.close(master)
+    assert command.returncode == 0
+    return text.decode("ascii").replace("\r\n", "\n")
+
+
+def check_command(root, folder):
+    board, stored = root / "examples/board/update.bin", root / "docs/power-loss.svg"
+    plain, coloured = said(root, board), said_on_terminal(root, board)
+    assert "\x1b" not in plain and "\x1b" in coloured and CODES.sub("", coloured) == plain
+    assert said_on_terminal(root, board, NO_COLOR="1") == plain
+    explained = [line[14:].partition(", ")[0] for line in board.with_suffix(".txt").read_text().splitlines()[3:-1]]
+    steps = [line for line in plain.splitlines() if line[:3].strip().isdigit()]
+    assert len(steps) == len(explained) and all(line.endswith(f" {words}") for line, words in zip(steps, explained))
+    findings = said(root, board, "--cut", "7", "--svg", folder / "drawn.svg")
+    assert (folder / "drawn.svg").read_text() == stored.read_text(), "docs/power-loss.svg is another picture"
+    assert findings.splitlines()[3] == "22 steps begun, 1 power loss, mended", findings
+    for words in ([folder / "missing.bin"], [board, "--cut", "21"], [board, "--cut", "0", "--cut", "1"]):
+        said(root, *words, status=1)
+    for words in ([], [board, "--cut", "-1"], [board, "--boots", "0"], [board, board]):
+        said(root, *words, status=2)

@@ -1,0 +1,28 @@
+"""Loaders that print wrong steps: the picture has to show what the steps do, and to say what is lost."""
+import power_ups
+from check import ROOT, check
+
+DATA = (ROOT / "examples/board/update.bin").read_bytes()
+# Steps on the example board, and what has to be said of BOOT and of UPDATE.
+WRONG = {
+    "E 0; C 768 0; E 256; C 1024 256; BOOT 2": ("BOOT: version 2, whole; every byte from UPDATE",
+                                                "UPDATE: version 2, whole; every byte from UPDATE"),
+    "E 256; BOOT 1": ("BOOT: does not pass, the digest differs; other bytes than found",
+                      "UPDATE: version 2, whole; every byte from UPDATE"),
+    "E 1024; C 0 1024; BOOT 1": ("BOOT: version 1, whole; every byte from BOOT",
+                                 "UPDATE: does not pass, the digest differs; other bytes than found"),
+    "C 0 1536; E 768; C 256 768; BOOT 1": ("BOOT: version 1, whole; every byte from BOOT",
+                                           "UPDATE: does not pass, the image mark is wrong; other bytes than found"),
+}
+
+
+def check_wrong_loaders(path):
+    right, wrong = power_ups.SIMULATOR, path.with_name("wrong")
+    for steps, slots in WRONG.items():
+        lines = steps.replace("; ", "\n") + "\n"
+        wrong.write_text(f"#!/bin/sh\ncat >/dev/null\ncat <<END\n{lines}END\n")
+        wrong.chmod(0o700)
+        power_ups.SIMULATOR = wrong
+        findings = check(path, DATA, simulated=lambda data, lines=lines: lines)
+        assert tuple(findings[1:3]) == slots, findings
+    power_ups.SIMULATOR = right
