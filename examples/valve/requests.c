@@ -1,0 +1,44 @@
+#include "requests.h"
+#include "flash.h"
+#include "loader.h"
+
+static frondicare_answer ask_trigger(void)
+{
+    return frondicare_trigger(flash, GEOMETRY);
+}
+
+static frondicare_answer ask_confirm(void)
+{
+    return frondicare_confirm(flash, GEOMETRY);
+}
+
+/* Trigger is asked here already: where it refuses, UPDATE has the image to return to. */
+frondicare_answer clear_update(void)
+{
+    static const frondicare_answer finished = { .kind = FRONDICARE_FINISHED };
+    frondicare_answer a = ask_trigger();
+    size_t at;
+    if (a.kind == FRONDICARE_REFUSED)
+        return a;
+    for (at = UPDATE; at < UPDATE + IMAGE_SIZE; at += SECTOR_SIZE)
+        flash_erase(at);
+    return finished;
+}
+
+bool write_update(size_t at, const uint8_t *data, size_t len)
+{
+    if (at > IMAGE_SIZE || len > IMAGE_SIZE - at)
+        return false;
+    flash_program(UPDATE + at, data, len);
+    return true;
+}
+
+frondicare_answer trigger(frondicare_step_counts *counts)
+{
+    return carry_out_steps(ask_trigger, MOST_STEPS, counts);
+}
+
+frondicare_answer confirm(frondicare_step_counts *counts)
+{
+    return carry_out_steps(ask_confirm, MOST_STEPS, counts);
+}
