@@ -3,18 +3,20 @@
 use Prim.Native.Nat.{ℕ, suc, _+_, _-_, _*_, _≤_}
 use mathlib.Core.Bool.{Bool, true, false, _&&_, false≢true}
 use mathlib.Core.List.{List, [], _∷_}
-use mathlib.Core.Path.{_≡_, refl, ap, _∙_}
+use mathlib.Core.Logic.{inl, inr}
+use mathlib.Core.Path.{_≡_, refl, sym, ap, _∙_}
 use native.Mathlib.Omega.{arith}
 use borrow.Author.Tests.{eqb-true}
 use lib.Bits.{bitAnd}
 use lib.Dec.{eqb}
 use lib.ListN.{length, getD, set, replicate, length-set}
 use lib.Seq.{getD-set-same}
-use Rattle.compare.specs.Compare.{all}
-use Rattle.compare.proofs.Tests.{and-right, and-true}
+use Rattle.compare.specs.Compare.{same, all}
+use Rattle.compare.proofs.Sameness.{same-self}
+use Rattle.compare.proofs.Tests.{never, and-right, and-true}
 use Rattle.compare.proofs.Values.{all-only}
 use Rattle.flash.specs.Bytes.{write}
-use Rattle.flash.specs.Cuts.{sound}
+use Rattle.flash.specs.Cuts.{sound, Cut}
 use Rattle.flash.specs.Steps.{applied}
 use Rattle.flash.specs.declared.steps.Step.the-variants.{Byte}
 use Rattle.flash.specs.declared.steps.Step.{Step}
@@ -33,7 +35,7 @@ use Rattle.slots.proofs.Renewing.{unsound-with}
 use Rattle.loader.specs.States.{updating, spent, testing, onTrial}
 use Rattle.power_loss.proofs.Exchange.{never-same}
 use Rattle.power_loss.proofs.Invariant.{Setting, Renewing, Going, renewing, exchanging, finishing, Over, copies, copyMost, copy-most, one-copy}
-use Rattle.power_loss.proofs.Invariant.{startCost, endCost, Reach, reach-more, Move}
+use Rattle.power_loss.proofs.Invariant.{startCost, endCost, Reach, reach-more, Move, Arrival}
 use Rattle.power_loss.proofs.OneSector.{Base, Change, changed, base-valid, sector-size, stepped, on}
 use Rattle.power_loss.proofs.Renewal.{renewCost, Becomes, unsound, stays, complete, After, Renewal, renewal}
 use Rattle.power_loss.proofs.Weights.{Weight}
@@ -194,3 +196,15 @@ module _ (t : Setting) (f : List ℕ) (h : Going t (3 * t .g .count) f) where
 
       gone : soundWith spentTrailer updating ≡ false
       gone = rw size at (is-spent (trailerOf g f Update) (omega (arith, size, base-valid (h .base) .shape .size-min)) (h .is-staged))
+
+  -- a Byte that a cut leaves not done is not begun
+  undone : (f′ : List ℕ) → Cut g f spending f′ → same f′ (applied g f spending) ≡ false → f′ ≡ f
+  undone f′ (inl e) n = e
+  undone f′ (inr e) n = never (sym (same-self (applied g f spending)) ∙ rw e at n)
+
+  pub arrival : onTrial g f ≡ true → Arrival t (finishing h) spending
+  arrival e = record {
+    less = λ w. omega arith;
+    whole = over e;
+    broken = λ f′ c n. rw (undone f′ c n) (record { late = true; phase = finishing h; fits = λ w. omega arith });
+  }

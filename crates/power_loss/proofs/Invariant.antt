@@ -135,3 +135,9 @@ module _ (t : Setting) where
     pub whole : Reach (applied g f s) left
     pub keeps : k ≡ true → whole .late ≡ true
     pub broken : (f′ : List ℕ) → Cut g f s f′ → Reach f′ (λ w. cost w p + harm w s)
+
+  -- the last step s from the phase p, whole, or cut and not done
+  pub record Arrival {f : List ℕ} {k : Bool} (p : Phase f k) (s : Step) : Type 0 where
+    pub less : (w : Weight) → weigh w s ≤ cost w p
+    pub whole : Over (applied g f s)
+    pub broken : (f′ : List ℕ) → Cut g f s f′ → same f′ (applied g f s) ≡ false → Reach f′ (λ w. cost w p + harm w s)

@@ -2,8 +2,9 @@
 use Prim.Native.Nat.{ℕ, _≤_}
 use mathlib.Core.Bool.{Bool, true, false}
 use mathlib.Core.List.{List, [], _∷_, _++_}
-use mathlib.Core.Path.{_≡_, sym, _∙_}
+use mathlib.Core.Path.{_≡_, refl, sym}
 use native.Mathlib.Omega.{arith}
+use Rattle.compare.proofs.Tests.{never}
 use Rattle.flash.specs.declared.geometry.Geometry.{Geometry}
 use Rattle.slots.specs.Places.{imageOf}
 use Rattle.slots.specs.declared.places.Slot.the-variants.{Boot, Update}
@@ -14,11 +15,11 @@ use Rattle.runner.specs.declared.counts.StepCounts.{StepCounts}
 use Rattle.power_loss.specs.Demand.{Safe}
 use Rattle.power_loss.specs.Histories.{Event, finishedAll}
 use Rattle.power_loss.specs.PowerUps.{none, more, Ended, uncut, cut}
-use Rattle.power_loss.specs.PowerUps.{powerUp, Lost, before, beforeLast, during, lastUndone, lastDone, afterLast, CutUp, cutUp, Cuts}
+use Rattle.power_loss.specs.PowerUps.{powerUp, Lost, before, on, after, CutUp, cutUp, Cuts}
 use Rattle.power_loss.proofs.Contents.{following}
 use Rattle.power_loss.proofs.Invariant.{Setting, Phase, cost}
 use Rattle.power_loss.proofs.OneSector.{base-valid}
-use Rattle.power_loss.proofs.PowerUpEnds.{step≢boot, last≢boot, Stands, Booted, still, struck, undone, finished, booted}
+use Rattle.power_loss.proofs.PowerUpEnds.{Stands, Booted, still, struck, finished, booted, goes-on}
 use Rattle.power_loss.proofs.RunSteps.{run-begins}
 use Rattle.power_loss.proofs.Runs.{phase-base, at-most, Ran, due, done, runs}
 use Rattle.power_loss.proofs.Signed.{answers}
@@ -46,25 +47,25 @@ module _ (k : Checks) (sig : List ℕ → Bool) (g : Geometry) (f₀ o : List �
 
     after-cut : (f f′ : List ℕ) {late : Bool} (p : Phase u f late) (h : List Event) → CutUp k sig g f₀ f h f′ false
         → Stands k g f₀ o a b pass f′ h (λ w. cost u w p)
-    after-cut f f′ p h (cutUp m c lt r x) = go (ran m f c p (omega arith) r) x
+    after-cut f f′ p h (cutUp m c lt r x) = go (ran m f c p (omega arith) r) x refl
       where
-        go : {e : Event} {f″ : List ℕ} → Ran k g f₀ o a b m (λ w. cost u w p) (powerUp k sig g f₀ m f c)
-            → Lost k sig g (powerUp k sig g f₀ m f c) e f″ false
+        go : {e : Event} {f″ : List ℕ} {boot : Bool} → Ran k g f₀ o a b m (λ w. cost u w p) (powerUp k sig g f₀ m f c)
+            → Lost k sig g (powerUp k sig g f₀ m f c) e f″ boot → boot ≡ false
             → Stands k g f₀ o a b pass f″ (finishedAll (powerUp k sig g f₀ m f c .steps) ++ e ∷ []) (λ w. cost u w p)
-        go y (before s e) = still k g f₀ o a b pass y (λ q. step≢boot (sym e ∙ q))
-        go y (beforeLast s e) = still k g f₀ o a b pass y (λ q. last≢boot (sym e ∙ q))
-        go y (during s f″ e q) = struck k g f₀ o a b pass s f″ y e q
-        go y (lastUndone s e) = undone k g f₀ o a b pass s y e
+        go y (before d) n = still k g f₀ o a b pass y d
+        go y (on d c) n = struck k g f₀ o a b pass y d c n
+        go y (after e) n = never n
 
     cut-boots : (f f′ : List ℕ) {late : Bool} (p : Phase u f late) (h : List Event) → CutUp k sig g f₀ f h f′ true
         → Booted k g f₀ o a b pass f′ h (λ w. cost u w p)
-    cut-boots f f′ p h (cutUp m c lt r x) = go (ran m f c p (omega arith) r) x
+    cut-boots f f′ p h (cutUp m c lt r x) = go (ran m f c p (omega arith) r) x refl
       where
-        go : {e : Event} {f″ : List ℕ} → Ran k g f₀ o a b m (λ w. cost u w p) (powerUp k sig g f₀ m f c)
-            → Lost k sig g (powerUp k sig g f₀ m f c) e f″ true
+        go : {e : Event} {f″ : List ℕ} {boot : Bool} → Ran k g f₀ o a b m (λ w. cost u w p) (powerUp k sig g f₀ m f c)
+            → Lost k sig g (powerUp k sig g f₀ m f c) e f″ boot → boot ≡ true
             → Booted k g f₀ o a b pass f″ (finishedAll (powerUp k sig g f₀ m f c .steps) ++ e ∷ []) (λ w. cost u w p)
-        go y (lastDone s e) = finished k g f₀ o a b pass s y e
-        go y (afterLast why e) =
+        go y (before d) n = never (sym n)
+        go y (on d c) n = finished k g f₀ o a b pass y d n
+        go y (after {why} e) n =
             let v = booted k g f₀ o a b pass why y e in
             record { over = v .0; bill = between-bill (powerUp k sig g f₀ m f c .steps) (v .1) }
 
@@ -100,5 +101,6 @@ module _ (k : Checks) (sig : List ℕ → Bool) (g : Geometry) (f₀ o : List �
       pub safe : Safe k sig g o f₀
       safe = record {
         kept = λ cs. phase-base u (after-cuts cs .phase) .kept;
+        goes-on = λ m c cs lt r. goes-on k g f₀ o a b pass (ran m _ c (after-cuts cs .phase) (omega arith) r);
         boots = λ c cs r. boots _ c (after-cuts cs .phase) r;
       }

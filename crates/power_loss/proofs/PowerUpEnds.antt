@@ -1,11 +1,13 @@
 -- The end of a power-up, cut or not, over the phases of a swap. Assumes nothing.
 use Prim.Native.Nat.{ℕ, _+_, _≤_}
-use mathlib.Core.Bool.{Bool}
+use mathlib.Core.Bool.{Bool, true, false, _&&_}
 use mathlib.Core.List.{List, [], _∷_, _++_}
 use mathlib.Core.Logic.{_≢_}
-use mathlib.Core.Path.{_≡_, sym, _∙_}
+use mathlib.Core.Path.{_≡_, refl, sym, _∙_}
 use native.Mathlib.Omega.{arith}
-use Rattle.compare.specs.Compare.{all}
+use Rattle.compare.specs.Compare.{same}
+use Rattle.compare.proofs.Sameness.{same-equal}
+use Rattle.compare.proofs.Tests.{never}
 use Rattle.flash.specs.Cuts.{Cut}
 use Rattle.flash.specs.Steps.{applied}
 use Rattle.flash.specs.declared.geometry.Geometry.{Geometry}
@@ -13,23 +15,41 @@ use Rattle.flash.specs.declared.steps.Step.{Step}
 use Rattle.slots.specs.Places.{imageOf}
 use Rattle.slots.specs.declared.places.Slot.the-variants.{Boot, Update}
 use Rattle.loader.specs.Checks.{Checks}
+use Rattle.loader.specs.Decisions.{nextStep}
 use Rattle.loader.specs.declared.answers.Answer.the-variants as A
+use Rattle.loader.specs.declared.answers.Answer.{Answer}
 use Rattle.runner.specs.Runs.{Outcome}
+use Rattle.power_loss.specs.Demand.{GoesOn}
 use Rattle.power_loss.specs.Histories.{Event, cutOn, cutBetween, finishedAll}
+use Rattle.power_loss.specs.PowerUps.{Due, ordinary, last}
 use Rattle.power_loss.proofs.Contents.{following}
 use Rattle.power_loss.proofs.Exchange.{never-same}
 use Rattle.power_loss.proofs.Invariant.{Setting, Phase, Over, cost, Reach}
-use Rattle.power_loss.proofs.Runs.{Next, onward, arrive, next, Ran, due, done}
+use Rattle.power_loss.proofs.Runs.{forBoot, forUpdate, Next, onward, arrive, next, Ran, due, done}
 use Rattle.power_loss.proofs.Weights.{Weight, harm, weighed, Bill, between-bill, cut-bill}
 
-pub step≢boot : {s : Step} {r : ℕ} → A.Step s ≢ A.Boot r
+step≢boot : {s : Step} {r : ℕ} → A.Step s ≢ A.Boot r
 step≢boot e = never-same (cc)
 
-pub last≢boot : {s : Step} {r : ℕ} → A.LastStep s ≢ A.Boot r
+last≢boot : {s : Step} {r : ℕ} → A.LastStep s ≢ A.Boot r
 last≢boot e = never-same (cc)
 
 step≢last : {s s′ : Step} → A.Step s ≢ A.LastStep s′
 step≢last e = never-same (cc)
+
+-- ---- which step an answer says is due
+
+due-boot : {x : Answer} {s : Step} {last : Bool} {r : ℕ} → Due x s last → x ≢ A.Boot r
+due-boot (ordinary s) = step≢boot
+due-boot (last s) = last≢boot
+
+due-step : {x : Answer} {s s′ : Step} {last : Bool} → Due x s last → x ≡ A.Step s′ → (s ≡ s′) × (last ≡ false)
+due-step (ordinary s) e = (cc, refl)
+due-step (last s) e = absurd (step≢last (sym e))
+
+due-last : {x : Answer} {s s′ : Step} {last : Bool} → Due x s last → x ≡ A.LastStep s′ → (s ≡ s′) × (last ≡ true)
+due-last (ordinary s) e = absurd (step≢last e)
+due-last (last s) e = (cc, refl)
 
 module _ (k : Checks) (g : Geometry) (f₀ o : List ℕ) (a b : Bool) (pass : k .verdict (imageOf g f₀ Update) b ≡ 0) where
   abbrev t : Setting
@@ -46,50 +66,46 @@ module _ (k : Checks) (g : Geometry) (f₀ o : List ℕ) (a b : Bool) (pass : k 
     pub over : Over t f
     pub bill : Bill h all (λ w. 0)
 
-  -- .. or the last step s is due
-  record Last (x : Outcome) (s : Step) (all : Weight → ℕ) : Type 0 where
-    late : Bool
-    phase : Phase t (x .flash) late
-    le : (w : Weight) → weighed w (finishedAll (x .steps)) + cost t w phase ≤ all w
-    over : Over t (applied g (x .flash) s)
+  -- ---- the step due from a phase
+
+  module _ {f : List ℕ} {late : Bool} {p : Phase t f late} {s : Step} {last : Bool}
+      (d : Due (nextStep k g f (forBoot k g f₀ o a b late) (forUpdate k g f₀ o a b late)) s last) {f′ : List ℕ} where
+    -- cut, and not a boot
+    broken : Next k g f₀ o a b p → Cut g f s f′ → (last && same f′ (applied g f s)) ≡ false → Reach t f′ (λ w. cost t w p + harm w s)
+    broken (onward s′ e mv) c n = let q = due-step d e in rw (q .0) (mv .broken f′ (rw (q .0) at c))
+    broken (arrive s′ e ar) c n = let q = due-last d e in rw (q .0) (ar .broken f′ (rw (q .0) at c) (rw (q .0, q .1) at n))
+
+    -- the last step, cut and done
+    arrived : Next k g f₀ o a b p → (last && same f′ (applied g f s)) ≡ true → Over t f′
+    arrived (onward s′ e mv) n = never (sym n ∙ rw (due-step d e .1))
+    arrived (arrive s′ e ar) n =
+        let q = due-last d e in
+        let i : f′ ≡ applied g f s′ = same-equal f′ (applied g f s′) (rw (q .0, q .1) at n) in
+        rw i (ar .whole)
 
   module _ {m : ℕ} {all : Weight → ℕ} {x : Outcome} where
     -- cut before the step due
-    pub still : Ran k g f₀ o a b m all x → x .answer ≢ A.Boot 0 → Stands (x .flash) (finishedAll (x .steps) ++ cutBetween ∷ []) all
-    still (done e ov le) ne = absurd (ne e)
-    still (due {late} p e q le) ne = record { late = late; phase = p; bill = between-bill (x .steps) le }
+    pub still : {s : Step} {last : Bool} → Ran k g f₀ o a b m all x → Due (x .answer) s last
+        → Stands (x .flash) (finishedAll (x .steps) ++ cutBetween ∷ []) all
+    still (done e ov le) d = absurd (due-boot d e)
+    still (due {late} p e q le) d = record { late = late; phase = p; bill = between-bill (x .steps) le }
 
-    -- cut on the step due
-    pub struck : (s : Step) (f′ : List ℕ) → Ran k g f₀ o a b m all x → x .answer ≡ A.Step s → Cut g (x .flash) s f′
-        → Stands f′ (finishedAll (x .steps) ++ cutOn s ∷ []) all
-    struck s f′ (done e ov le) q c = absurd (step≢boot (sym q ∙ e))
-    struck s f′ (due p e n le) q c = go (next k g f₀ o a b pass (x .flash) p)
-      where
-        go : Next k g f₀ o a b p → Stands f′ (finishedAll (x .steps) ++ cutOn s ∷ []) all
-        go (arrive s′ e′ le′ ov) = absurd (step≢last (sym q ∙ e ∙ e′))
-        go (onward s′ e′ mv) =
-            let same : s ≡ s′ = cc in
-            let r : Reach t f′ (λ w. cost t w p + harm w s) = rw same (mv .broken f′ (rw same at c)) in
-            record { late = r .late; phase = r .phase; bill = cut-bill (x .steps) s (λ w. omega (arith, le w, r .fits w)) }
+    -- cut on the step due, and not a boot
+    pub struck : {s : Step} {last : Bool} {f′ : List ℕ} → Ran k g f₀ o a b m all x → Due (x .answer) s last → Cut g (x .flash) s f′
+        → (last && same f′ (applied g (x .flash) s)) ≡ false → Stands f′ (finishedAll (x .steps) ++ cutOn s ∷ []) all
+    struck (done e ov le) d c n = absurd (due-boot d e)
+    struck {s} (due p e q le) d c n =
+        let r = broken (rw e at d) (next k g f₀ o a b pass (x .flash) p) c n in
+        record { late = r .late; phase = r .phase; bill = cut-bill (x .steps) s (λ w. omega (arith, le w, r .fits w)) }
 
-    at-last : (s : Step) → Ran k g f₀ o a b m all x → x .answer ≡ A.LastStep s → Last x s all
-    at-last s (done e ov le) q = absurd (last≢boot (sym q ∙ e))
-    at-last s (due {late} p e n le) q = go (next k g f₀ o a b pass (x .flash) p)
-      where
-        go : Next k g f₀ o a b p → Last x s all
-        go (onward s′ e′ mv) = absurd (step≢last (sym e′ ∙ sym e ∙ q))
-        go (arrive s′ e′ le′ ov) = let same : s ≡ s′ = cc in record { late = late; phase = p; le = le; over = rw same ov }
-
-    pub undone : (s : Step) → Ran k g f₀ o a b m all x → x .answer ≡ A.LastStep s → Stands (x .flash) (finishedAll (x .steps) ++ cutOn s ∷ []) all
-    undone s r q =
-        let y : Last x s all = at-last s r q in
-        record { late = y .late; phase = y .phase; bill = cut-bill (x .steps) s (λ w. omega (arith, y .le w)) }
-
-    pub finished : (s : Step) → Ran k g f₀ o a b m all x → x .answer ≡ A.LastStep s
-        → Booted (applied g (x .flash) s) (finishedAll (x .steps) ++ cutOn s ∷ []) all
-    finished s r q =
-        let y : Last x s all = at-last s r q in
-        record { over = y .over; bill = cut-bill (x .steps) s (λ w. omega (arith, y .le w)) }
+    -- cut on the last step, and done
+    pub finished : {s : Step} {last : Bool} {f′ : List ℕ} → Ran k g f₀ o a b m all x → Due (x .answer) s last
+        → (last && same f′ (applied g (x .flash) s)) ≡ true → Booted f′ (finishedAll (x .steps) ++ cutOn s ∷ []) all
+    finished (done e ov le) d n = absurd (due-boot d e)
+    finished {s} (due p e q le) d n = record {
+      over = arrived (rw e at d) (next k g f₀ o a b pass (x .flash) p) n;
+      bill = cut-bill (x .steps) s (λ w. omega (arith, le w));
+    }
 
     -- the boot is reached
     pub booted : (r : ℕ) → Ran k g f₀ o a b m all x → x .answer ≡ A.Boot r
@@ -99,4 +115,13 @@ module _ (k : Checks) (g : Geometry) (f₀ o : List ℕ) (a b : Bool) (pass : k 
       where
         go : Next k g f₀ o a b p → ⊥
         go (onward s′ e′ mv) = step≢boot (sym e′ ∙ sym e ∙ q)
-        go (arrive s′ e′ le′ ov) = last≢boot (sym e′ ∙ sym e ∙ q)
+        go (arrive s′ e′ ar) = last≢boot (sym e′ ∙ sym e ∙ q)
+
+    -- a step, a last step or a boot with no reason is answered
+    pub goes-on : Ran k g f₀ o a b m all x → GoesOn (x .answer)
+    goes-on (done e ov le) = rw e refl
+    goes-on (due {late} p e n le) = rw e (go (next k g f₀ o a b pass (x .flash) p))
+      where
+        go : Next k g f₀ o a b p → GoesOn (nextStep k g (x .flash) (forBoot k g f₀ o a b late) (forUpdate k g f₀ o a b late))
+        go (onward s′ e′ mv) = rw e′ tt
+        go (arrive s′ e′ ar) = rw e′ tt

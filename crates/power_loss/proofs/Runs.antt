@@ -24,11 +24,11 @@ use Rattle.runner.specs.Runs.{exchanged, Outcome, did, meets, runFor}
 use Rattle.power_loss.specs.Histories.{finishedAll, sum}
 use Rattle.power_loss.proofs.Contents.{Contents, following, contents-new, contents-end}
 use Rattle.power_loss.proofs.Decided.{back-due, not-passed-over, at-exchange, exchanged-at, finish-due, finish-last}
-use Rattle.power_loss.proofs.Ends.{renews, move-renewing, finishes, move-finishing, over}
+use Rattle.power_loss.proofs.Ends.{renews, move-renewing, finishes, move-finishing, arrival}
 use Rattle.power_loss.proofs.Exchange.{move-exchanging}
 use Rattle.power_loss.proofs.Images.{image-same}
 use Rattle.power_loss.proofs.Invariant.{Setting, Renewing, Going, Phase, renewing, exchanging, finishing, Over, copies, one-copy}
-use Rattle.power_loss.proofs.Invariant.{copy-most, endCost, cost, Move}
+use Rattle.power_loss.proofs.Invariant.{copy-most, endCost, cost, Move, Arrival}
 use Rattle.power_loss.proofs.OneSector.{Base}
 use Rattle.power_loss.proofs.Renewal.{renew-most}
 use Rattle.power_loss.proofs.RunSteps.{run-due, run-step, step-done, run-last}
@@ -93,8 +93,7 @@ module _ (k : Checks) (g : Geometry) (f₀ o : List ℕ) (a b : Bool) where
   -- the next step from the phase p
   pub data Next {f : List ℕ} {late : Bool} (p : Phase t f late) : Type 0 where
     onward : (s : Step) → nextStep k g f (forBoot late) (forUpdate late) ≡ A.Step s → Move t p s → Next p
-    arrive : (s : Step) → nextStep k g f (forBoot late) (forUpdate late) ≡ A.LastStep s → ((w : Weight) → weigh w s ≤ cost t w p)
-        → Over t (applied g f s) → Next p
+    arrive : (s : Step) → nextStep k g f (forBoot late) (forUpdate late) ≡ A.LastStep s → Arrival t p s → Next p
 
   module _ (pass : k .verdict (imageOf g f₀ Update) b ≡ 0) (f : List ℕ) where
     same-image : Contents k g f₀ 0 f → (s : Slot) → imageOf g f s ≡ imageOf g f₀ s
@@ -125,7 +124,7 @@ module _ (k : Checks) (g : Geometry) (f₀ o : List ℕ) (a b : Bool) where
         i = image-same g f f₀ Boot Update (contents-end k g f₀ f (h .held) Boot)
 
         go : (c : Bool) → onTrial g f ≡ c → Next (finishing h)
-        go true e = arrive (Byte (stateAt g Update) spent) (finish-last t h k b a e (rw i pass)) (λ w. omega arith) (over t f h e)
+        go true e = arrive (Byte (stateAt g Update) spent) (finish-last t h k b a e (rw i pass)) (arrival t f h e)
         go false e = onward (finishes t f h e .0) (finish-due t h k b a (finishes t f h e .0) (finishes t f h e .1 .is-due)) (move-finishing t f h e)
 
     pub next : {late : Bool} (p : Phase t f late) → Next p
@@ -171,5 +170,5 @@ module _ (k : Checks) (g : Geometry) (f₀ o : List ℕ) (a b : Bool) where
           (ran-did m (λ w. cost t w p) (λ w. cost t w (mv .whole .phase)) s
           (runFor k g m (forBoot (mv .whole .late)) (forUpdate (mv .whole .late)) (applied g f s))
           (λ w. omega (arith, mv .less w, mv .whole .fits w)) (rec (applied g f s) (mv .whole .late) (mv .whole .phase)))
-      go rec (arrive s e le ov) =
-          rw (run-last k g f (forBoot late) (forUpdate late) m s e) (done refl ov (λ w. omega (arith, le w)))
+      go rec (arrive s e ar) =
+          rw (run-last k g f (forBoot late) (forUpdate late) m s e) (done refl (ar .whole) (λ w. omega (arith, ar .less w)))

@@ -17,6 +17,7 @@ use Rattle.loader.specs.Checks.{Checks, imageChecks}
 use Rattle.loader.specs.Requests.{triggerAnswer}
 use Rattle.loader.specs.States.{onTrial}
 use Rattle.loader.specs.declared.answers.Answer.the-variants as A
+use Rattle.loader.specs.declared.answers.Answer.{Answer}
 use Rattle.runner.specs.Counts.{roomy}
 use Rattle.runner.specs.declared.counts.StepCounts.{StepCounts}
 use Rattle.power_loss.specs.Histories.{Event, begun, cuts}
@@ -38,6 +39,13 @@ Exchanged g f f′ = (s : Slot) (i : ℕ) → i < g .count → bytesAt g f′ (S
 abbrev pub Restored : Geometry → List ℕ → List ℕ → Type 0
 Restored g f f′ = (s : Slot) (i : ℕ) → i < g .count → bytesAt g f′ (Sector s i) ≡ bytesAt g f (Sector s i)
 
+-- a step, a last step, or a boot with no reason
+abbrev pub GoesOn : Answer → Type 0
+GoesOn (A.Step s) = Unit {0}
+GoesOn (A.LastStep s) = Unit {0}
+GoesOn (A.Boot why) = why ≡ 0
+GoesOn (A.Refused n) = ⊥
+
 module _ (k : Checks) (sig : List ℕ → Bool) (g : Geometry) where
   -- ---- the premises: of the rest of the flash nothing is assumed
 
@@ -55,9 +63,12 @@ module _ (k : Checks) (sig : List ℕ → Bool) (g : Geometry) where
   abbrev pub Bounded : List Event → Type 0
   Bounded h = begun h ≤ 9 * g .count + 4 + 2 * cuts h
 
-  -- after any cuts in a list that began with f₀ no byte outside the areas has changed, and an uncut power-up boots with no reason
+  -- After any cuts in a list that began with f₀ no byte outside the areas has changed, a power-up can be cut wherever its run is (so that
+  -- no list is left out), and an uncut one boots with no reason.
   pub record Safe (f f₀ : List ℕ) : Type 0 where
     pub kept : {h : List Event} {f′ : List ℕ} → Cuts k sig g f₀ h f′ → Kept g f f′
+    pub goes-on : {h : List Event} {f′ : List ℕ} (m : ℕ) (c : StepCounts) → Cuts k sig g f₀ h f′ → m < 4096 → roomy c ≡ true
+        → GoesOn (powerUp k sig g f₀ m f′ c .answer)
     pub boots : {h : List Event} {f′ : List ℕ} (c : StepCounts) → Cuts k sig g f₀ h f′ → roomy c ≡ true
         → powerUp k sig g f₀ 4096 f′ c .answer ≡ A.Boot 0
 

@@ -1,8 +1,9 @@
 -- Demand 3: power-ups, and lists of them. k are the checks of images, sig is the signature checker, a function of the image.
 use Prim.Native.Nat.{ℕ, _<_}
-use mathlib.Core.Bool.{Bool, true, false, cond}
+use mathlib.Core.Bool.{Bool, true, false, cond, _&&_}
 use mathlib.Core.List.{List, [], _∷_, _++_}
 use mathlib.Core.Path.{_≡_}
+use Rattle.compare.specs.Compare.{same}
 use Rattle.flash.specs.Cuts.{Cut}
 use Rattle.flash.specs.Steps.{applied}
 use Rattle.flash.specs.declared.geometry.Geometry.{Geometry}
@@ -13,10 +14,16 @@ use Rattle.slots.specs.declared.places.Slot.{Slot}
 use Rattle.loader.specs.Checks.{Checks}
 use Rattle.loader.specs.MidSwap.{midSwap}
 use Rattle.loader.specs.declared.answers.Answer.the-variants as A
+use Rattle.loader.specs.declared.answers.Answer.{Answer}
 use Rattle.runner.specs.Counts.{roomy}
 use Rattle.runner.specs.Runs.{Outcome, runOf}
 use Rattle.runner.specs.declared.counts.StepCounts.{StepCounts}
 use Rattle.power_loss.specs.Histories.{Event, finishedAll, cutOn, cutBetween}
+
+-- the step that an answer says is due, and whether it is the last before booting
+pub data Due : Answer → Step → Bool → Type 0 where
+  ordinary : (s : Step) → Due (A.Step s) s false
+  last : (s : Step) → Due (A.LastStep s) s true
 
 module _ (k : Checks) (sig : List ℕ → Bool) (g : Geometry) where
   -- the checker's answer for a slot at a power-up with the flash f, in a list that began with f₀: in mid-swap by the slots before that swap
@@ -30,14 +37,12 @@ module _ (k : Checks) (sig : List ℕ → Bool) (g : Geometry) where
   -- a cut after what a run with a smaller number leaves: the event, the flash left, and whether it counts as a boot
   pub data Lost (o : Outcome) : Event → List ℕ → Bool → Type 0 where
     -- before the step due
-    before : (s : Step) → o .answer ≡ A.Step s → Lost o cutBetween (o .flash) false
-    beforeLast : (s : Step) → o .answer ≡ A.LastStep s → Lost o cutBetween (o .flash) false
-    -- on the step due; of the last step, which is a Byte, it is undone or done, and done it counts as a boot
-    during : (s : Step) (f′ : List ℕ) → o .answer ≡ A.Step s → Cut g (o .flash) s f′ → Lost o (cutOn s) f′ false
-    lastUndone : (s : Step) → o .answer ≡ A.LastStep s → Lost o (cutOn s) (o .flash) false
-    lastDone : (s : Step) → o .answer ≡ A.LastStep s → Lost o (cutOn s) (applied g (o .flash) s) true
+    before : {s : Step} {last : Bool} → Due (o .answer) s last → Lost o cutBetween (o .flash) false
+    -- on the step due: what a cut of that step may leave, and where it is a last step and done, a boot
+    on : {s : Step} {last : Bool} {f′ : List ℕ} → Due (o .answer) s last → Cut g (o .flash) s f′
+        → Lost o (cutOn s) f′ (last && same f′ (applied g (o .flash) s))
     -- after the last step
-    afterLast : (why : ℕ) → o .answer ≡ A.Boot why → Lost o cutBetween (o .flash) true
+    after : {why : ℕ} → o .answer ≡ A.Boot why → Lost o cutBetween (o .flash) true
 
   -- a cut power-up from the flash f, with a smaller number and any counters with room: what happens, and the flash left
   pub data CutUp (f₀ f : List ℕ) : List Event → List ℕ → Bool → Type 0 where
