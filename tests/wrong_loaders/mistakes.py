@@ -1,0 +1,103 @@
+"""The wrong loaders once more, as mistakes in the rules of tests/vectors, each with a counterexample: a board and cuts for
+both lists of power-ups, and the conclusions of demand 3 that they break."""
+from contextlib import ExitStack
+from typing import NamedTuple
+from unittest.mock import patch
+
+import demand
+import loader_rules
+import runner_rules
+from demand import Board, Cut
+from flash_case import G
+from flash_rules import BOOT, CLOSING, UPDATE, flag_step, image, sound_with
+from loader_case import U70, filled
+from loader_images import ONE, TWO
+from loader_rules import SPENT, TESTING, VERSION_NOT_GREATER, Answer, boot, renewal, state_byte, verdict, version
+
+# Document 01's example board. The checker accepts both images.
+EXAMPLE = Board(G, filled(ONE, TWO, U70), lambda image: True)
+
+
+def flag_at_once(geometry, flash, number):
+    return flag_step(geometry, flash, number)
+
+
+def version_rule_always(geometry, flash, answers):
+    number = verdict(geometry, flash, answers, UPDATE)
+    installed = version(geometry, flash, BOOT)
+    if number != 0 or installed is None or version(geometry, flash, UPDATE) > installed:
+        return number
+    return VERSION_NOT_GREATER
+
+
+def return_only_if_spent(geometry, flash, answers):
+    if not sound_with(geometry, flash, BOOT, TESTING):
+        return boot(geometry, flash, answers, 0)
+    signed = (answers[BOOT], answers[UPDATE] and sound_with(geometry, flash, UPDATE, SPENT))
+    number = verdict(geometry, flash, signed, UPDATE)
+    if number != 0:
+        return boot(geometry, flash, answers, number)
+    return Answer("STEP", renewal(geometry, flash, UPDATE, loader_rules.UPDATING))
+
+
+def erased_instead_of_spent(geometry, slot, state):
+    return ("E", geometry.trailer(UPDATE).start) if state == SPENT else state_byte(geometry, slot, state)
+
+
+def only_with_its_own_answer(geometry, flash, answers, slot):
+    """A verdict by which the checker's answer for the one image is no answer for the other: ONE wants no, TWO wants yes."""
+    return 0 if (image(geometry, flash, slot), bool(answers[slot])) in ((ONE, False), (TWO, True)) else 18
+
+
+def any_bytes(geometry, step, left):
+    return step[0] in "EC" and len(left) == geometry.z
+
+
+class Counterexample(NamedTuple):
+    """rules: what the wrong loader has in place of rules of tests/vectors. checks: the verdict, for a claim about every verdict."""
+    rules: list
+    breaks: str
+    first: tuple = ()
+    second: tuple = ()
+    board: Board = EXAMPLE
+    checks: list = []
+
+    def broken(self, patches):
+        """What both lists break under some patches; None where a cut does not leave what it should."""
+        with ExitStack() as stack:
+            for module, name, value in patches:
+                stack.enter_context(patch.object(module, name, value))
+            try:
+                lists = demand.play(self.board, self.first, self.second)
+            except demand.NoSuchCut:
+                return None
+        return ", ".join(text for name, powers in zip(("first", "second"), lists) for text in powers.broken(name))
+
+    def shown(self):
+        """The mistake breaks what is said here; the right rules break nothing, or no cut of theirs leaves that."""
+        broken = self.broken([*self.checks, *self.rules])
+        assert broken == self.breaks, broken
+        assert not self.broken(self.checks), self.broken(self.checks)
+        return broken
+
+
+# A trailer that is sound with 70, and ill-formed flags.
+SOUND_70 = b"\xff" * 250 + b"\x3f\x70" + CLOSING
+
+COUNTEREXAMPLES = {
+    "flag_before_its_copy": Counterexample([(loader_rules, "exchange", flag_at_once)], "first.exchanged"),
+    "version_rule_on_a_return": Counterexample([(loader_rules, "update_refused", version_rule_always)],
+                                               "second.boots (BOOT 19), second.restored"),
+    "answers_never_exchanged": Counterexample([(runner_rules, "all_updated", lambda geometry, flash: False)],
+                                              "first.boots (REFUSE 18), second.boots (REFUSE 18)",
+                                              board=EXAMPLE._replace(signed=lambda image: image == TWO),
+                                              checks=[(loader_rules, "verdict", only_with_its_own_answer)]),
+    "trailer_sound_after_a_cut_erase": Counterexample([(demand, "may_leave", any_bytes)],
+                                                      "second.boots (REFUSE 20), second.restored", second=(Cut(0, SOUND_70), )),
+    "update_stays_staged": Counterexample([(loader_rules, "SPENT", 0x70)], "second.restored"),
+    "return_needs_a_sound_update": Counterexample([(loader_rules, "without_update", return_only_if_spent)],
+                                                  "second.boots (BOOT 18), second.restored"),
+    "last_step_erases": Counterexample([(loader_rules, "state_byte", erased_instead_of_spent)],
+                                       "first.bound (42 steps of 24), first.exchanged, second.restored",
+                                       first=(Cut(19, b"\x5a" * 256), )),
+}
