@@ -13,14 +13,15 @@
  * What the flash owes, where power is lost: a byte or a mark is written or not begun; an erase or a copy
  * changes nothing outside its sector; and a cut erase never leaves 42 4F 4F 54 at a slot's end.
  *
- * To check an image before it is started:
+ * To check an image:
  *     frondicare_verify(image, image_len, signature_ok) == 0
  * To make one: frondicare_digest_to_sign, sign the digest, then frondicare_write_header with the
  * same arguments; the image is the 256 bytes of the buffer, then the firmware.
  *
  * To trigger an update: ask frondicare_trigger. Where it refuses, leave UPDATE alone, since it may hold the
- * image to return to. Otherwise write the image to UPDATE with the flash's own driver; then ask
- * frondicare_trigger and carry out the step it answers, until it answers FRONDICARE_FINISHED.
+ * image to return to. Otherwise erase UPDATE, its trailer first, and write the image there with the flash's
+ * own driver. Check it where it lies; if it passes, ask frondicare_trigger and carry out the step it
+ * answers, until it answers FRONDICARE_FINISHED.
  * At power-up: ask for the next step and carry it out, until there is none.
  *     do {
  *         a = frondicare_next_step(flash, flash_len, .., boot_signed, update_signed);
@@ -178,7 +179,7 @@ frondicare_answer frondicare_next_step(const uint8_t *flash, size_t flash_len,
                                        bool boot_signed, bool update_signed);
 
 /* The next step that triggers an update to the image in UPDATE, at most three in all, or finished. The
- * image is not verified yet. Refused: 1 to 4 as above; 22: UPDATE is sound with 70 and some flag isn't
+ * image is not verified here. Refused: 1 to 4 as above; 22: UPDATE is sound with 70 and some flag isn't
  * F; 21: BOOT is sound with 10. */
 frondicare_answer frondicare_trigger(const uint8_t *flash, size_t flash_len,
                                      size_t sector_size, size_t sector_count,

@@ -1,4 +1,5 @@
 #include "requests.h"
+#include "checker.h"
 #include "flash.h"
 #include "loader.h"
 
@@ -12,7 +13,8 @@ static frondicare_answer ask_confirm(void)
     return frondicare_confirm(flash, GEOMETRY);
 }
 
-/* Trigger is asked here already: where it refuses, UPDATE has the image to return to. */
+/* Trigger is asked here already: where it refuses, UPDATE has the image to return to. The trailer is erased first, so
+ * that what comes is no update before it is triggered itself. */
 frondicare_answer clear_update(void)
 {
     static const frondicare_answer finished = { .kind = FRONDICARE_FINISHED };
@@ -20,8 +22,8 @@ frondicare_answer clear_update(void)
     size_t at;
     if (a.kind == FRONDICARE_REFUSED)
         return a;
-    for (at = UPDATE; at < UPDATE + IMAGE_SIZE; at += SECTOR_SIZE)
-        flash_erase(at);
+    for (at = UPDATE + SLOT_SIZE; at > UPDATE; at -= SECTOR_SIZE)
+        flash_erase(at - SECTOR_SIZE);
     return finished;
 }
 
@@ -33,8 +35,18 @@ bool write_update(size_t at, const uint8_t *data, size_t len)
     return true;
 }
 
+/* The image as the flash holds it, since pieces may be missing or damaged. The loader verifies it again at power-up. */
+static uint32_t verify_update(void)
+{
+    const uint8_t *image = flash + UPDATE;
+    return frondicare_verify(image, IMAGE_SIZE, is_signed(image));
+}
+
 frondicare_answer trigger(frondicare_step_counts *counts)
 {
+    frondicare_answer refused = { .kind = FRONDICARE_REFUSED, .number = verify_update() };
+    if (refused.number != 0)
+        return refused;
     return carry_out_steps(ask_trigger, MOST_STEPS, counts);
 }
 

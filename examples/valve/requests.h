@@ -5,13 +5,14 @@
 
 #include "frondicare.h"
 
-/* Erases UPDATE's image. Refused where the image there is still needed. */
+/* Erases UPDATE. Refused where the image there is still needed. */
 frondicare_answer clear_update(void);
 
 /* Writes a piece, at its offset in the image. False, and nothing is written, where it would pass the slot's image. */
 bool write_update(size_t at, const uint8_t *data, size_t len);
 
-/* The image in UPDATE is whole: the next power-up is to swap it in. */
+/* The image in UPDATE is whole: it is verified, and the next power-up is to swap it in. Where it doesn't pass, it is
+ * refused with the verdict's number, and nothing is triggered. */
 frondicare_answer trigger(frondicare_step_counts *counts);
 
 /* The image on trial works. */

@@ -1,8 +1,8 @@
 /* Simulated by a file that is mapped for writing. */
 #include "simulation/memory_flash.h"
 #include "board.h"
+#include "frondicare.h"
 #include "simulation/file.h"
-#include <string.h>
 #include <sys/mman.h>
 
 const uint8_t *flash;
@@ -14,10 +14,10 @@ void flash_open(const char *path)
     flash = memory_flash;
 }
 
-/* Of images only: the library erases trailers. */
+/* As a run erases. */
 void flash_erase(size_t at)
 {
-    memset(memory_flash + at, 0xff, SECTOR_SIZE);
+    frondicare_apply_step(memory_flash, GEOMETRY, FRONDICARE_ERASE, at, 0, 0);
 }
 
 void flash_program(size_t at, const uint8_t *data, size_t len)

@@ -1,10 +1,12 @@
 /* A valve to play with: its flash is a file, and each command is a power-up or something that the firmware asks for.
  *
- * valve FLASH new                makes the file, with version 1 in BOOT
- * valve FLASH stage VERSION LEN  an image comes in, with LEN bytes of firmware, and the update to it is triggered
- * valve FLASH power-up [STEPS]   the loader runs, for at most so many steps, and says what it starts
- * valve FLASH confirm            the image on trial works
- * valve geometry                 sector size and count, BOOT, UPDATE, SWAP and the size of the flash
+ * valve FLASH new                  makes the file, with version 1 in BOOT
+ * valve FLASH receive VERSION LEN  an image comes in, with LEN bytes of firmware
+ * valve FLASH trigger              it is verified, and the update to it is triggered
+ * valve FLASH stage VERSION LEN    both
+ * valve FLASH power-up [STEPS]     the loader runs, for at most so many steps, and says what it starts
+ * valve FLASH confirm              the image on trial works
+ * valve geometry                   sector size and count, BOOT, UPDATE, SWAP and the size of the flash
  *
  * Status: 0 done, 1 refused, 2 the command is wrong, 3 power lost, 4 the steps were not enough. */
 #include "flash.h"
@@ -65,7 +67,7 @@ static int tell(frondicare_answer a)
 }
 
 /* The image comes in pieces. */
-static int stage(size_t len)
+static int receive(size_t len)
 {
     frondicare_answer a = clear_update();
     size_t at, piece;
@@ -78,7 +80,13 @@ static int stage(size_t len)
             return REFUSED;
         }
     }
-    return tell(trigger(&counts));
+    return DONE;
+}
+
+static int stage(size_t len)
+{
+    int status = receive(len);
+    return status == DONE ? tell(trigger(&counts)) : status;
 }
 
 static uint32_t version_of(const uint8_t *slot)
@@ -110,6 +118,8 @@ static int switch_on(uint32_t most_steps)
 
 static int command(int count, char **words)
 {
+    bool stages = strcmp(words[0], "stage") == 0;
+    size_t len;
     atexit(print_counts);
     if (count == 1 && strcmp(words[0], "power-up") == 0)
         return switch_on(MOST_STEPS);
@@ -117,9 +127,13 @@ static int command(int count, char **words)
         return switch_on(number_in(words[1]));
     if (count == 1 && strcmp(words[0], "confirm") == 0)
         return tell(confirm(&counts));
-    require(count == 3 && strcmp(words[0], "stage") == 0, "no such command; simulation/valve.c lists them");
-    make_image(image, number_in(words[1]), number_in(words[2]));
-    return stage(HEADER + number_in(words[2]));
+    if (count == 1 && strcmp(words[0], "trigger") == 0)
+        return tell(trigger(&counts));
+    require(count == 3 && (stages || strcmp(words[0], "receive") == 0),
+            "no such command; simulation/valve.c lists them");
+    len = HEADER + number_in(words[2]);
+    make_image(image, number_in(words[1]), len - HEADER);
+    return stages ? stage(len) : receive(len);
 }
 
 int main(int count, char **words)

@@ -52,13 +52,33 @@ def passed_over(valve, chance):
         check_untouched(valve, flash, ["power-up"], f"boots version 1, update passed over: {number}")
 
 
+def check_not_triggered(valve, flash, number):
+    """What was received is refused with this number, and no update is considered."""
+    check_untouched(valve, flash, ["trigger"], f"refused: {number}", REFUSED)
+    check_untouched(valve, flash, ["power-up"], "boots version 1")
+
+
+def verified(valve, chance):
+    """What was received is triggered where it passes. An update that was triggered before goes by it too."""
+    new, firmware = valve.new(chance), valve.image_size - HEADER
+    for before in new, valve.stage(new, 2):
+        received = says(valve.run(before, "receive", 3, firmware), "")
+        damaged = changed(received, valve.update + HEADER + chance.randrange(firmware))
+        a_stranger_s = written(received, valve.update + SIGNATURE[0], chance.randbytes(64))
+        of_a_size = [written(received, valve.update + 4, size.to_bytes(4, "little")) for size in (0, firmware + 1)]
+        for flash, number in (damaged, 17), (a_stranger_s, 18), *((flash, 12) for flash in of_a_size):
+            check_not_triggered(valve, flash, number)
+        check_untouched(valve, received, ["power-up"], "boots version 1")
+        says(valve.power_up(says(valve.run(received, "trigger"), "")), "boots version 3, on trial")
+
+
 def too_long(valve, chance):
     new = valve.new(chance)
     flash = says(valve.run(new, "stage", 2, valve.image_size - HEADER + 1), "too long", REFUSED)
     for at in range(0, valve.size, valve.sector):
-        inside = valve.update <= at < valve.update + valve.image_size
-        assert inside or flash[at:at + valve.sector] == new[at:at + valve.sector], "only UPDATE's image is written"
-    check_untouched(valve, flash, ["power-up"], "boots version 1")
+        inside = valve.update <= at <= valve.update + valve.image_size
+        assert inside or flash[at:at + valve.sector] == new[at:at + valve.sector], "only UPDATE is written"
+    check_not_triggered(valve, flash, 12)
 
 
 def boot_damaged(valve, chance):

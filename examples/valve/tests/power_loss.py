@@ -1,7 +1,7 @@
 """Power loss, while the valve has a driver to its flash. Either loader goes on with what the other one left."""
 from commands import SIGNATURE, changed
 from power_ups import PowerUps, check_cut, step_by_step
-from valve import DONE, HEADER, NOT_ENOUGH, POWER_LOST, UPDATING, says
+from valve import DONE, HEADER, NOT_ENOUGH, POWER_LOST, REFUSED, UPDATING, says
 
 HISTORIES = 8
 
@@ -78,9 +78,10 @@ def cut_again_and_again(driver, memory, chance):
 
 
 def cut_while_staging(driver, memory, chance):
-    """What was staged in part is no update, and can be staged again."""
+    """What was staged in part is no update, can't be triggered, and can be staged again."""
     first = driver.power_up(driver.stage(driver.new(chance), 2)).flash
     start = says(driver.run(first, "confirm"), "")
+    whole = [driver.image(flash, driver.update) for flash in (start, driver.stage(start, 3))]
     for command in each_command(driver, chance):
         cut = {"LOSE_POWER_AT": command, "BYTES_DONE": chance.choice((0, 1, 100, driver.sector))}
         done = driver.run(start, "stage", 3, driver.image_size - HEADER, **cut)
@@ -88,6 +89,8 @@ def cut_while_staging(driver, memory, chance):
             break
         triggered = driver.is_sound_with(done.flash, driver.update, UPDATING)
         valve = chance.choice((driver, memory))
+        passes = valve.run(done.flash, "trigger").status == DONE
+        assert passes == (driver.image(done.flash, driver.update) in whole), "an image in part"
         says(valve.power_up(done.flash), "boots version 3, on trial" if triggered else "boots version 2")
         says(valve.power_up(driver.stage(done.flash, 4)), "boots version 4, on trial")
     assert command > driver.count * (2 + driver.sector // 256), f"only {command} commands"
@@ -105,8 +108,10 @@ def damaged_in_mid_swap(driver, memory, chance):
 
 
 def worn_out(driver, memory, chance):
-    """A byte of BOOT isn't written any more: the loader gives up, and nothing is lost."""
-    staged = driver.stage(driver.new(chance), 2)
+    """A byte isn't written any more. Of UPDATE: the image is refused. Of BOOT: the loader gives up; nothing is lost."""
+    new = driver.new(chance)
+    says(driver.run(new, "stage", 2, 1, WORN=driver.update), "refused: 11", REFUSED)
+    staged = driver.stage(new, 2)
     done = driver.run(staged, "power-up", WORN=driver.boot)
     assert (done.status, sum(done.counts)) == (NOT_ENOUGH, 2 * driver.most_steps), done
     says(memory.power_up(done.flash), "boots version 2, on trial")

@@ -13,8 +13,8 @@ import commands
 import power_loss
 from valve import Valve
 
-OF_EACH = [commands.updated_and_returned, commands.confirmed, commands.passed_over, commands.too_long,
-           commands.boot_damaged, commands.trailer_damaged]
+OF_EACH = [commands.updated_and_returned, commands.confirmed, commands.verified, commands.too_long,
+           commands.passed_over, commands.boot_damaged, commands.trailer_damaged]
 OF_BOTH = [power_loss.stopped_after_each_step, power_loss.cut_at_each_command, power_loss.cut_again_and_again,
            power_loss.cut_while_staging, power_loss.damaged_in_mid_swap, power_loss.worn_out]
 
