@@ -1,26 +1,35 @@
--- A stored case of a board at the start of s: a name's length (1 byte), the name, k bytes, a flash's length (4 bytes) and the flash.
-use Prim.Native.Nat.{ℕ, _+_}
+-- The first of the stored cases s: a name's length (1 byte), the name, a head of k bytes, a flash's length (4 bytes) and the flash.
+use Prim.Native.Nat.{ℕ, _+_, min}
 use mathlib.Core.Bool.{cond}
 use mathlib.Core.List.{List, _++_}
-use lib.Dec.{eqb, leb}
+use lib.Dec.{eqb}
 use lib.ListN.{length, drop}
 use Rattle.header.specs.Numbers.{byteAt, numberAt}
 use Rattle.records.specs.Records.{partOf, firstOf}
 
--- the flash's length
-abbrev pub given : ℕ → List ℕ → ℕ
-given k s = numberAt 4 s (1 + byteAt s 0 + k)
+abbrev pub nameIn : List ℕ → List ℕ
+nameIn s = partOf s 1 (byteAt s 0)
 
-abbrev pub caseSize : ℕ → List ℕ → ℕ
-caseSize k s = 5 + byteAt s 0 + k + given k s
+abbrev pub headIn : ℕ → List ℕ → List ℕ
+headIn k s = partOf s (1 + byteAt s 0) k
+
+-- where the head ends
+abbrev pub headEnd : ℕ → List ℕ → ℕ
+headEnd k s = 1 + byteAt s 0 + k
 
 abbrev pub flashIn : ℕ → List ℕ → List ℕ
-flashIn k s = partOf s (5 + byteAt s 0 + k) (given k s)
+flashIn k s = partOf s (headEnd k s + 4) (numberAt 4 s (headEnd k s))
 
--- with length 0 it is the one before
-abbrev pub flashLength : ℕ → List ℕ → ℕ → ℕ
-flashLength k s before = cond (eqb (given k s) 0) before (given k s)
+abbrev pub restOf : ℕ → List ℕ → List ℕ
+restOf k s = drop (headEnd k s + 4 + numberAt 4 s (headEnd k s)) s
 
--- a flash at the start of a space, where there is room for it
+-- a flash f at the start of a space, as far as there is room
+abbrev pub fitting : List ℕ → List ℕ → ℕ
+fitting f space = min (length f) (length space)
+
 unfoldable pub loaded : List ℕ → List ℕ → List ℕ
-loaded f space = cond (leb (length f) (length space)) (firstOf (length f) f ++ drop (length f) space) space
+loaded f space = firstOf (fitting f space) f ++ drop (fitting f space) space
+
+-- its length there; an empty one is the flash before
+abbrev pub flashLength : List ℕ → ℕ → List ℕ → ℕ
+flashLength f before space = min (cond (eqb (length f) 0) before (length f)) (length space)

@@ -1,22 +1,17 @@
 // A board in binary: document 01's record of 24 bytes, as the simulator takes it, and the flash that goes with
 // it. Stored cases are such boards one after the other, each under a name.
-ghost use Prim.Native.Nat.{_^_, _<_};
+ghost use Prim.Native.Nat.{_-_, _^_, _≤_, _<_, min};
 ghost use mathlib.Core.Bool.{cond};
 ghost use mathlib.Core.Path.{_≡_};
+ghost use lib.ListN.{length};
 ghost use Rattle.header.specs.Numbers.{numberAt};
 ghost use Rattle.board_records.specs.Boards.{geometryIn, bootSigned, updateSigned};
-ghost use Rattle.board_records.specs.Cases.{caseSize, flashLength, flashIn, loaded};
+ghost use Rattle.board_records.specs.Cases.{nameIn, headIn, headEnd, flashIn, flashLength, loaded, restOf};
 use flash::Geometry;
 use header::u32_at;
 use records::byte_at;
 use records::copy;
 use records::part;
-
-// How many bytes a case takes, and how many the flash has that goes with it.
-pub struct Taken {
-    pub size: usize,
-    pub flash_len: usize,
-}
 
 // A number of four bytes.
 fn number(record: &[u8], i: usize) -> usize
@@ -49,14 +44,46 @@ pub fn update_signed(record: &[u8]) -> bool
     number(record, 20) / 2 % 2 == 1
 }
 
-// Lays a flash at the start of a space; one that is longer is left out.
-fn load(flash: &[u8], space: &mut [u8])
-    ensures { λ _. ⌜ now (space .exit) ≡ loaded (now (flash .entry)) (now (space .entry)) ⌝ }
+// The name of the first of the stored cases s.
+pub fn name(s: &[u8]) -> &[u8]
+    ensures { λ r. ⌜ now r ≡ nameIn (now (s .entry)) ⌝ }
 {
-    let n = flash.len();
-    if n <= space.len() {
-        copy(flash, &mut space[..n]);
-    }
+    part(s, 1, byte_at(s, 0) as usize)
+}
+
+// Its head, which has size bytes.
+pub fn head(s: &[u8], size: u8) -> &[u8]
+    ensures { λ r. ⌜ now r ≡ headIn size (now (s .entry)) ⌝ }
+{
+    part(s, 1 + byte_at(s, 0) as usize, size as usize)
+}
+
+fn head_end(s: &[u8], size: u8) -> usize
+    ensures { λ r. ⌜ (r ≡ headEnd size (now (s .entry))) × (r < 2 ^ 32) ⌝ }
+{
+    1 + byte_at(s, 0) as usize + size as usize
+}
+
+fn flash(s: &[u8], size: u8) -> &[u8]
+    ensures { λ r. ⌜ now r ≡ flashIn size (now (s .entry)) ⌝ }
+{
+    let at = head_end(s, size);
+    part(s, at + 4, number(s, at))
+}
+
+// The cases after it.
+pub fn rest(s: &[u8], size: u8) -> &[u8]
+    ensures { λ r. ⌜ (now r ≡ restOf size (now (s .entry))) × (length (now r) ≤ length (now (s .entry)) - 5) ⌝ }
+{
+    let at = head_end(s, size);
+    let end = at + 4 + number(s, at);
+    if end <= s.len() { &s[end..] } else { &s[..0] }
+}
+
+fn least(a: usize, b: usize) -> usize
+    ensures { λ r. ⌜ (r ≡ min a b) × (r ≤ b) ⌝ }
+{
+    if a <= b { a } else { b }
 }
 
 fn pick(which: bool, yes: usize, no: usize) -> usize
@@ -65,18 +92,16 @@ fn pick(which: bool, yes: usize, no: usize) -> usize
     if which { yes } else { no }
 }
 
-// Takes the first case of s, which is a name's length (1 byte), the name, head bytes, a flash's length (4 bytes)
-// and the flash. With length 0 the flash is the one that the case before left in the space.
-pub fn take(s: &[u8], head: u8, space: &mut [u8], flash_len: usize) -> Taken
-    ensures { λ r. ⌜ (r .size ≡ caseSize head (now (s .entry))) × ((r .«flash_len» ≡ flashLength head (now (s .entry)) «flash_len»)
-        × (now (space .exit) ≡ loaded (flashIn head (now (s .entry))) (now (space .entry)))) ⌝ }
+// Lays its flash at the start of a space, and answers how long it is there. A case without one goes on with the flash
+// that the case before left.
+pub fn load(s: &[u8], size: u8, space: &mut [u8], before: usize) -> usize
+    ensures { λ r. ⌜ (r ≡ flashLength (flashIn size (now (s .entry))) before (now (space .entry)))
+        × ((r ≤ length (now (space .entry))) × (now (space .exit) ≡ loaded (flashIn size (now (s .entry))) (now (space .entry)))) ⌝ }
 {
-    let n = byte_at(s, 0) as usize;
-    let k = head as usize;
-    let given = number(s, 1 + n + k);
-    load(part(s, 5 + n + k, given), space);
-    Taken {
-        size: 5 + n + k + given,
-        flash_len: pick(given == 0, flash_len, given),
-    }
+    let flash = flash(s, size);
+    let len = flash.len();
+    let room = space.len();
+    let n = least(len, room);
+    copy(flash, &mut space[..n]);
+    least(pick(len == 0, before, len), room)
 }

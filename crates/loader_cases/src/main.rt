@@ -4,11 +4,12 @@
 // document 01's simulator takes them, a flash's length (4 bytes) and the flash. With length 0 the flash is
 // what the record before left. The letters: n next step, t trigger, c confirm; with N, T and C the step
 // that is answered is carried out.
-ghost use Prim.Native.Nat.{_<_};
-use board_records::Taken;
 use board_records::boot_signed;
 use board_records::geometry;
-use board_records::take;
+use board_records::head;
+use board_records::load;
+use board_records::name;
+use board_records::rest;
 use board_records::update_signed;
 use flash::Geometry;
 use flash::Step;
@@ -46,9 +47,10 @@ fn request(flash: &mut [u8], g: Geometry, w: Work, does: bool) {
 }
 
 // Prints the rest of a line. A letter that is none of these prints nothing.
-fn answer(flash: &mut [u8], letter: u8, record: &[u8]) {
+fn answer(flash: &mut [u8], head: &[u8]) {
+    let record = part(head, 1, 24);
     let g = geometry(record);
-    match letter {
+    match byte_at(head, 0) {
         b'n' => next_step(flash, g, record, false),
         b'N' => next_step(flash, g, record, true),
         b't' => request(flash, g, loader::trigger(flash, g), false),
@@ -59,39 +61,15 @@ fn answer(flash: &mut [u8], letter: u8, record: &[u8]) {
     }
 }
 
-// The same on the flash at the start of a space, which has room for every flash of the cases.
-fn answer_in(space: &mut [u8], flash_len: usize, letter: u8, record: &[u8]) {
-    if flash_len <= space.len() {
-        answer(&mut space[..flash_len], letter, record);
-    }
-}
-
-// Prints the line of the first record.
-fn case(s: &[u8], space: &mut [u8], flash_len: usize) -> Taken
-    ensures { λ r. ⌜ 0 < r .size ⌝ }
-{
-    let taken = take(s, HEAD, space, flash_len);
-    let n = byte_at(s, 0) as usize;
-    show::label(part(s, 1, n));
-    answer_in(
-        space,
-        taken.flash_len,
-        byte_at(s, 1 + n),
-        part(s, 2 + n, 24),
-    );
-    taken
-}
-
-fn cases(s: &[u8], space: &mut [u8]) {
-    let mut p = 0;
-    let mut flash_len = 0;
-    while p < s.len() {
-        let taken = case(part(s, p, s.len() - p), space, flash_len);
-        if s.len() - p < taken.size {
-            return;
-        }
-        p += taken.size;
-        flash_len = taken.flash_len;
+fn cases(input: &[u8], space: &mut [u8]) {
+    let mut left = input;
+    let mut n = 0;
+    while 0 < left.len() {
+        let s = left;
+        n = load(s, HEAD, space, n);
+        show::label(name(s));
+        answer(&mut space[..n], head(s, HEAD));
+        left = rest(s, HEAD);
     }
 }
 

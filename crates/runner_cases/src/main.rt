@@ -4,16 +4,15 @@
 // length (1 byte), the name, 24 bytes as document 01's simulator takes them, the number of steps (4 bytes),
 // the counters before the run (16 bytes), a flash's length (4 bytes) and the flash. With length 0 the flash is
 // what the record before left.
-ghost use Prim.Native.Nat.{_<_};
-use board_records::Taken;
 use board_records::boot_signed;
 use board_records::geometry;
-use board_records::take;
+use board_records::head;
+use board_records::load;
+use board_records::name;
+use board_records::rest;
 use board_records::update_signed;
 use header::u32_at;
 use libc::STDIN_FILENO;
-use records::byte_at;
-use records::part;
 use runner::run_counting;
 use show::field;
 
@@ -46,34 +45,15 @@ fn run(flash: &mut [u8], record: &[u8]) {
     show::digest(sha256::digest(flash));
 }
 
-// The same on the flash at the start of a space, which has room for every flash of the cases.
-fn run_in(space: &mut [u8], flash_len: usize, record: &[u8]) {
-    if flash_len <= space.len() {
-        run(&mut space[..flash_len], record);
-    }
-}
-
-// Prints the lines of the first record.
-fn case(s: &[u8], space: &mut [u8], flash_len: usize) -> Taken
-    ensures { λ r. ⌜ 0 < r .size ⌝ }
-{
-    let taken = take(s, HEAD, space, flash_len);
-    let n = byte_at(s, 0) as usize;
-    show::label(part(s, 1, n));
-    run_in(space, taken.flash_len, part(s, 1 + n, HEAD as usize));
-    taken
-}
-
-fn cases(s: &[u8], space: &mut [u8]) {
-    let mut p = 0;
-    let mut flash_len = 0;
-    while p < s.len() {
-        let taken = case(part(s, p, s.len() - p), space, flash_len);
-        if s.len() - p < taken.size {
-            return;
-        }
-        p += taken.size;
-        flash_len = taken.flash_len;
+fn cases(input: &[u8], space: &mut [u8]) {
+    let mut left = input;
+    let mut n = 0;
+    while 0 < left.len() {
+        let s = left;
+        n = load(s, HEAD, space, n);
+        show::label(name(s));
+        run(&mut space[..n], head(s, HEAD));
+        left = rest(s, HEAD);
     }
 }
 
