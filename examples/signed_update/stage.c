@@ -46,6 +46,7 @@ static frondicare_answer trigger(void)
     return frondicare_trigger(flash, flash_len, size, count, boot, update, swap);
 }
 
+/* Not verified first, as examples/valve does it: here a bad image is to be met at power-up. */
 static void trigger_update(void)
 {
     frondicare_answer a;

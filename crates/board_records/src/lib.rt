@@ -1,5 +1,5 @@
-// A board in binary: document 01's record of 24 bytes, as the simulator takes it, and the flash that goes with
-// it. Stored cases are such boards one after the other, each under a name.
+// A board in binary: document 01's record of 24 bytes, as the simulator takes it. Stored cases are boards one after
+// the other, each with a name, a head (the record is in it) and a flash; specs/Cases.antt says how they lie.
 ghost use Prim.Native.Nat.{_-_, _^_, _≤_, _<_, min};
 ghost use mathlib.Core.Bool.{cond};
 ghost use mathlib.Core.Path.{_≡_};

@@ -1,9 +1,6 @@
-// The cases of document 01's decisions: takes the records of standard input one after the other and prints
+// The cases of document 01's decisions: takes the stored cases of standard input one after the other and prints
 // a line for each, held to the file stdout. tests/vectors/loader.py makes both files, the answers with
-// another implementation. A record is a name's length (1 byte), the name, a letter (1 byte), 24 bytes as
-// document 01's simulator takes them, a flash's length (4 bytes) and the flash. With length 0 the flash is
-// what the record before left. The letters: n next step, t trigger, c confirm; with N, T and C the step
-// that is answered is carried out.
+// another implementation.
 use board_records::boot_signed;
 use board_records::geometry;
 use board_records::head;
@@ -20,7 +17,8 @@ use records::byte_at;
 use records::part;
 use slots::Work;
 
-// A case's letter and the board's record.
+// A case's head is a letter (1 byte) and the board's record (24 bytes). The letters: n next step, t trigger, c
+// confirm; with N, T and C the step that is answered is carried out.
 const HEAD: u8 = 25;
 
 fn carry_out(flash: &mut [u8], g: Geometry, step: Step, does: bool) {

@@ -1,9 +1,6 @@
-// The cases of document 01's bounded run: takes the records of standard input one after the other and prints
+// The cases of document 01's bounded run: takes the stored cases of standard input one after the other and prints
 // two lines for each, held to the file stdout: the answer, then the counters and the digest of the flash.
-// tests/vectors/runner.py makes both files, the answers with another implementation. A record is a name's
-// length (1 byte), the name, 24 bytes as document 01's simulator takes them, the number of steps (4 bytes),
-// the counters before the run (16 bytes), a flash's length (4 bytes) and the flash. With length 0 the flash is
-// what the record before left.
+// tests/vectors/runner.py makes both files, the answers with another implementation.
 use board_records::boot_signed;
 use board_records::geometry;
 use board_records::head;
@@ -16,7 +13,8 @@ use libc::STDIN_FILENO;
 use runner::run_counting;
 use show::field;
 
-// The board's record, the number of steps and the counters.
+// A case's head is the board's record (24 bytes), the number of steps (4 bytes) and the counters before the run
+// (16 bytes).
 const HEAD: u8 = 44;
 
 // Runs on the flash and prints the answer, the counters and the digest.
