@@ -12,7 +12,7 @@ use lib.Bits.{bitAnd, and-shr, and-mod, and-le-l}
 use lib.Dec.{eqb}
 use lib.ListN.{length, take, drop, getD}
 use Rattle.flash.specs.Bytes.{blank, overlay, write}
-use Rattle.flash.specs.Changes.{target, targetSize, Only, bit, Clears, ClearsOnly, Changes}
+use Rattle.flash.specs.Changes.{targetStart, targetSize, Only, bit, Clears, ClearsOnly, Changes}
 use Rattle.flash.specs.Cuts.{Torn, Cut}
 use Rattle.flash.specs.Geometry.{geometryCheck}
 use Rattle.flash.specs.Steps.{accepted, closing, applied, stepCheck, flashAfter}
@@ -71,7 +71,7 @@ unchanged : (f : List ℕ) (at k : ℕ) → Only f f at k
 unchanged f at k = record { size = refl; others = λ i b. refl }
 
 module _ (g : Geometry) (f : List ℕ) where
-  whole : (s : Step) → Valid g (length f) → accepted g s ≡ true → Only f (applied g f s) (target s) (targetSize g s)
+  whole : (s : Step) → Valid g (length f) → accepted g s ≡ true → Only f (applied g f s) (targetStart s) (targetSize g s)
   unfolding closing
   whole (Erase at) v e = overlay-only f at (blank (g .size)) (g .size) (length-blank (g .size)) (target-fits g (length f) v (Erase at) e)
   whole (Copy from to) v e =
@@ -83,7 +83,7 @@ module _ (g : Geometry) (f : List ℕ) where
   torn : (at : ℕ) (f′ : List ℕ) → at + g .size ≤ length f → Torn g f at f′ → Only f f′ at (g .size)
   torn at f′ h t = rw (t .is) (overlay-only f at (t .left) (g .size) (t .size) h)
 
-  cut : (s : Step) → Valid g (length f) → accepted g s ≡ true → (f′ : List ℕ) → Cut g f s f′ → Only f f′ (target s) (targetSize g s)
+  cut : (s : Step) → Valid g (length f) → accepted g s ≡ true → (f′ : List ℕ) → Cut g f s f′ → Only f f′ (targetStart s) (targetSize g s)
   cut (Erase at) v e f′ c = torn at f′ (target-fits g (length f) v (Erase at) e) (c .0)
   cut (Copy from to) v e f′ c = torn to f′ (target-fits g (length f) v (Copy from to) e) c
   cut (Byte at x) v e f′ (inl c) = rw c (unchanged f at 1)

@@ -11,7 +11,7 @@ use borrow.Author.Tests.{leb-true, ltb-true, eqb-true, eq-eqb, ne-eqb}
 use lib.Dec.{leb, ltb, eqb}
 use lib.ListN.{length}
 use Rattle.compare.proofs.Tests.{never, and-left, and-right, or-cases}
-use Rattle.flash.specs.Changes.{target, targetSize, Lies, InAreas}
+use Rattle.flash.specs.Changes.{targetStart, targetSize, Lies, InAreas}
 use Rattle.flash.specs.Geometry.{imageSize, slotSize, aligned, geometryCheck}
 use Rattle.flash.specs.Steps.{within, sectorStart, trailerByte, markPlace, accepted, applied, stepCheck, flashAfter}
 use Rattle.flash.specs.Valid.{Apart, Valid}
@@ -121,7 +121,7 @@ module _ (g : Geometry) (len : ℕ) (v : Valid g len) where
       differ : not (eqb from to) ≡ true → from ≢ to
       differ n q = never (sym (rw (eq-eqb from to q) at n))
 
-  pub target-inside : (s : Step) → accepted g s ≡ true → InAreas g (target s) (targetSize g s)
+  pub target-inside : (s : Step) → accepted g s ≡ true → InAreas g (targetStart s) (targetSize g s)
   target-inside (Erase at) e = start-inside at e
   target-inside (Copy from to) e = start-inside to (copied from to e .to-start)
   target-inside (Byte at x) e = trailer-inside at e
@@ -133,10 +133,10 @@ module _ (g : Geometry) (len : ℕ) (v : Valid g len) where
   inside-fits at k (inr (inl h)) = omega (arith, v .update-in)
   inside-fits at k (inr (inr h)) = omega (arith, v .swap-in)
 
-  pub target-fits : (s : Step) → accepted g s ≡ true → target s + targetSize g s ≤ len
-  target-fits s e = inside-fits (target s) (targetSize g s) (target-inside s e)
+  pub target-fits : (s : Step) → accepted g s ≡ true → targetStart s + targetSize g s ≤ len
+  target-fits s e = inside-fits (targetStart s) (targetSize g s) (target-inside s e)
 
-  pub fits-as : (s t : Step) → accepted g s ≡ true → s ≡ t → target t + targetSize g t ≤ len
+  pub fits-as : (s t : Step) → accepted g s ≡ true → s ≡ t → targetStart t + targetSize g t ≤ len
   fits-as s t e q = target-fits t (rw q at e)
 
   pub copy-fits : (s : Step) (from to : ℕ) → accepted g s ≡ true → s ≡ Copy from to

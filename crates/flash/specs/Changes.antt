@@ -12,11 +12,11 @@ use Rattle.flash.specs.declared.steps.Step.{Step}
 use Rattle.flash.specs.declared.steps.Step.the-variants.{Erase, Copy, Byte, Mark}
 
 -- the bytes that a step is about: where they start, and how many
-abbrev pub target : Step → ℕ
-target (Erase at) = at
-target (Copy from to) = to
-target (Byte at v) = at
-target (Mark at) = at
+abbrev pub targetStart : Step → ℕ
+targetStart (Erase at) = at
+targetStart (Copy from to) = to
+targetStart (Byte at v) = at
+targetStart (Mark at) = at
 
 abbrev pub targetSize : Geometry → Step → ℕ
 targetSize g (Erase at) = g .size
@@ -38,9 +38,9 @@ pub record Only (f f′ : List ℕ) (at k : ℕ) : Type 0 where
 
 -- whole or cut, an accepted step changes its target only, which lies in one of the three areas
 pub record TargetOnly (g : Geometry) (f : List ℕ) (s : Step) : Type 0 where
-  pub inside : InAreas g (target s) (targetSize g s)
-  pub whole : Only f (applied g f s) (target s) (targetSize g s)
-  pub cut : (f′ : List ℕ) → Cut g f s f′ → Only f f′ (target s) (targetSize g s)
+  pub inside : InAreas g (targetStart s) (targetSize g s)
+  pub whole : Only f (applied g f s) (targetStart s) (targetSize g s)
+  pub cut : (f′ : List ℕ) → Cut g f s f′ → Only f f′ (targetStart s) (targetSize g s)
 
 -- bit k of a number
 abbrev pub bit : ℕ → ℕ → ℕ

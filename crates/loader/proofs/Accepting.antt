@@ -25,9 +25,9 @@ use Rattle.slots.specs.declared.answers.Work.the-variants as W
 use Rattle.slots.specs.declared.answers.Work.{Work}
 use Rattle.slots.specs.declared.places.Slot.the-variants.{Boot, Update}
 use Rattle.slots.proofs.DueAccepted.{DueAccepted, state-accepted, renewal-accepted, exchange-accepted}
-use Rattle.loader.specs.Accepted.{StepsAccepted}
+use Rattle.loader.specs.StepsAccepted.{StepsAccepted}
 use Rattle.loader.specs.Checks.{Checks}
-use Rattle.loader.specs.Decisions.{orElse, bootOr, goBack, spend, finish, swapping, decision, nextStep}
+use Rattle.loader.specs.Decisions.{orElse, bootOr, goBack, spend, finish, stagedDecision, decision, nextStep}
 use Rattle.loader.specs.Requests.{swapBegun, triggering, confirming, triggerAnswer, confirmAnswer}
 use Rattle.loader.specs.States.{updating, testing, success, staged, onTrial}
 use Rattle.loader.specs.declared.answers.Answer.the-variants as A
@@ -62,13 +62,13 @@ module _ (k : Checks) (g : Geometry) (f : List ℕ) (ok : geometryCheck g (lengt
   unfolding finish
   finishing t = or-else g (renewalOf g f Boot t) (spend k g f a) (renewal-accepted g f v Boot t) spending
 
-  swaps : (t : ℕ) → AnswerAccepted g (swapping k g f t a b)
+  swaps : (t : ℕ) → AnswerAccepted g (stagedDecision k g f t a b)
   swaps t = go (progressOf fs) refl
     where
       fs : List ℕ
       fs = flags (g .count) (trailerOf g f Update)
 
-      go : (r : Progress) → progressOf fs ≡ r → AnswerAccepted g (swapping k g f t a b)
+      go : (r : Progress) → progressOf fs ≡ r → AnswerAccepted g (stagedDecision k g f t a b)
       go (P.Refused n) e = rw (at-refusal k g f ok t a b n e) tt
       go (P.At p) e = rw (at-progress k g f ok t a b p e)
           (by-test (AnswerAccepted g) (eqb (why k g f b p) 0)

@@ -1,5 +1,5 @@
 -- Decisions 1 to 4 by the progress, as the code goes. Assumes nothing.
-use Prim.Native.Nat.{ℕ, _*_, _≤_}
+use Prim.Native.Nat.{ℕ, _*_, _≤_, _<_}
 use mathlib.Core.Bool.{Bool, true, false, cond, not}
 use mathlib.Core.List.{List}
 use mathlib.Core.Logic.{_≢_}
@@ -8,21 +8,21 @@ use native.Mathlib.Decide.{ℕ-discrete}
 use native.Mathlib.Omega.{arith}
 use borrow.Author.Tests.{eq-eqb, ne-eqb}
 use lib.Dec.{eqb}
-use lib.ListN.{length}
+use lib.ListN.{length, getD}
 use Rattle.compare.specs.Compare.{all}
 use Rattle.flash.specs.Geometry.{geometryCheck}
 use Rattle.flash.specs.declared.geometry.Geometry.{Geometry}
 use Rattle.flash.proofs.Areas.{valid}
 use Rattle.slots.specs.Correspondence.{Says}
 use Rattle.slots.specs.Exchange.{exchangeStep, exchangeOf}
-use Rattle.slots.specs.Flags.{new, updated, flags, wellFormed, progress, progressOf}
+use Rattle.slots.specs.Flags.{new, updated, flags, wellFormed, lowestUnfinished, progressOf}
 use Rattle.slots.specs.Places.{trailerOf}
 use Rattle.slots.specs.declared.answers.Progress.the-variants as P
 use Rattle.slots.specs.declared.places.Slot.the-variants.{Update}
-use Rattle.slots.proofs.Exchanging.{exchange-due, exchange-finished}
+use Rattle.slots.proofs.Exchanging.{exchangeStepAt, exchange-due, exchange-finished}
 use Rattle.slots.proofs.Reached.{flags-at, flags-says, ill-formed}
 use Rattle.loader.specs.Checks.{Checks}
-use Rattle.loader.specs.Decisions.{orElse, bootOr, passedOver, finish, swapping}
+use Rattle.loader.specs.Decisions.{orElse, bootOr, passedOver, finish, stagedDecision}
 use Rattle.loader.specs.declared.answers.Answer.{Answer}
 use Rattle.loader.specs.declared.answers.Answer.the-variants as A
 
@@ -34,8 +34,8 @@ module _ (k : Checks) (g : Geometry) (f : List ℕ) (ok : geometryCheck g (lengt
   abbrev fs : List ℕ
   fs = flags (g .count) (trailerOf g f Update)
 
-  pub at-refusal : (n : ℕ) → progressOf fs ≡ P.Refused n → swapping k g f t a b ≡ A.Refused n
-  unfolding swapping
+  pub at-refusal : (n : ℕ) → progressOf fs ≡ P.Refused n → stagedDecision k g f t a b ≡ A.Refused n
+  unfolding stagedDecision
   at-refusal n e = let h = ill-formed fs n e in rw (h .0, h .1)
 
   abbrev by : ℕ → Answer
@@ -48,47 +48,42 @@ module _ (k : Checks) (g : Geometry) (f : List ℕ) (ok : geometryCheck g (lengt
     formed : wellFormed fs ≡ true
     formed = flags-at fs p e .formed
 
-    reached : progress fs ≡ p
-    reached = flags-at fs p e .reached
+    -- 4
+    current : p < 3 * g .count → exchangeStep g f (lowestUnfinished fs) (getD fs (lowestUnfinished fs) 0) ≡ exchangeStepAt g f p
+    current h = let c = says .current h in rw (c .0, c .1)
 
     sectors : 1 ≤ g .count
     sectors = valid g (length f) ok .shape .count-min
 
     -- all flags F
-    none-begun : p ≡ 0 → swapping k g f t a b ≡ by p
-    unfolding swapping
+    none-begun : p ≡ 0 → stagedDecision k g f t a b ≡ by p
+    unfolding stagedDecision
     none-begun z =
         let u : all updated fs ≡ false = says .all-updated ∙ ne-eqb p (3 * g .count) (omega (arith, sectors)) in
         let n : all new fs ≡ true = says .all-new ∙ eq-eqb p 0 z in
-        rw (formed, u, n, reached, eq-eqb p 0 z, exchange-due g f p (omega (arith, sectors))) (go (eqb (passedOver k g f b) 0))
+        let h : p < 3 * g .count = omega (arith, sectors) in
+        rw (formed, u, n, current h, exchange-due g f p h, eq-eqb p 0 z) (go (eqb (passedOver k g f b) 0))
       where
-        go : (c : Bool) → cond (not c) (bootOr k g f a (passedOver k g f b)) (A.Step (exchangeStep g f p))
-            ≡ cond c (A.Step (exchangeStep g f p)) (bootOr k g f a (passedOver k g f b))
+        go : (c : Bool) → cond (not c) (bootOr k g f a (passedOver k g f b)) (A.Step (exchangeStepAt g f p))
+            ≡ cond c (A.Step (exchangeStepAt g f p)) (bootOr k g f a (passedOver k g f b))
         go true = refl
         go false = refl
 
     -- all flags 0
-    all-done : p ≢ 0 → p ≡ 3 * g .count → swapping k g f t a b ≡ by p
-    unfolding swapping
+    all-done : p ≢ 0 → p ≡ 3 * g .count → stagedDecision k g f t a b ≡ by p
+    unfolding stagedDecision
     all-done z w = rw (formed, says .all-updated, eq-eqb p (3 * g .count) w, ne-eqb p 0 z, exchange-finished g f p (omega arith))
 
-    between : p ≢ 0 → p ≢ 3 * g .count → swapping k g f t a b ≡ by p
-    unfolding swapping
+    between : p ≢ 0 → p ≢ 3 * g .count → stagedDecision k g f t a b ≡ by p
+    unfolding stagedDecision
     between z w =
-        rw (
-          formed,
-          says .all-updated,
-          ne-eqb p (3 * g .count) w,
-          says .all-new,
-          ne-eqb p 0 z,
-          reached,
-          exchange-due g f p (omega (arith, says .bound)),
-        )
+        let h : p < 3 * g .count = omega (arith, says .bound) in
+        rw (formed, says .all-updated, ne-eqb p (3 * g .count) w, says .all-new, ne-eqb p 0 z, current h, exchange-due g f p h)
 
-    pub at-progress : swapping k g f t a b ≡ by p
+    pub at-progress : stagedDecision k g f t a b ≡ by p
     at-progress = go (ℕ-discrete p 0) (ℕ-discrete p (3 * g .count))
       where
-        go : Dec (p ≡ 0) → Dec (p ≡ 3 * g .count) → swapping k g f t a b ≡ by p
+        go : Dec (p ≡ 0) → Dec (p ≡ 3 * g .count) → stagedDecision k g f t a b ≡ by p
         go (yes z) c = none-begun z
         go (no z) (yes w) = all-done z w
         go (no z) (no w) = between z w

@@ -12,16 +12,15 @@ use Rattle.compare.specs.Compare.{all}
 use Rattle.compare.proofs.Tests.{never, and-left, and-right}
 use Rattle.flash.specs.Geometry.{geometryCheck}
 use Rattle.flash.specs.declared.geometry.Geometry.{Geometry}
-use Rattle.slots.specs.Exchange.{exchangeStep}
 use Rattle.slots.specs.Flags.{new, updated, flags, progressOf}
 use Rattle.slots.specs.Places.{trailerOf}
 use Rattle.slots.specs.declared.answers.Progress.{Progress}
 use Rattle.slots.specs.declared.answers.Progress.the-variants as P
 use Rattle.slots.specs.declared.places.Slot.the-variants.{Update}
-use Rattle.slots.proofs.Exchanging.{exchange-due}
+use Rattle.slots.proofs.Exchanging.{exchangeStepAt, exchange-due}
 use Rattle.slots.proofs.Reached.{new-at, flags-says}
 use Rattle.loader.specs.Checks.{Checks}
-use Rattle.loader.specs.Decisions.{swapping, decision, nextStep}
+use Rattle.loader.specs.Decisions.{stagedDecision, decision, nextStep}
 use Rattle.loader.specs.MidSwap.{midSwap, NothingVerified}
 use Rattle.loader.specs.States.{testing, staged}
 use Rattle.loader.specs.declared.answers.Answer.{Answer}
@@ -34,7 +33,7 @@ module _ (g : Geometry) (f : List ℕ) where
 
   -- the answer by the progress alone
   answered : Progress → Answer
-  answered (P.At p) = A.Step (exchangeStep g f p)
+  answered (P.At p) = A.Step (exchangeStepAt g f p)
   answered (P.Refused n) = A.Refused n
 
   module _ (is : midSwap g f ≡ true) where
@@ -63,7 +62,7 @@ module _ (g : Geometry) (f : List ℕ) where
         omega (arith, s .bound)
 
     module _ (ok : geometryCheck g (length f) ≡ 0) (k : Checks) (a b : Bool) where
-      by-progress : (r : Progress) → progressOf fs ≡ r → swapping k g f testing a b ≡ answered r
+      by-progress : (r : Progress) → progressOf fs ≡ r → stagedDecision k g f testing a b ≡ answered r
       unfolding answered
       by-progress (P.Refused n) e = at-refusal k g f ok testing a b n e
       by-progress (P.At p) e = at-progress k g f ok testing a b p e ∙ rw (begun p e, exchange-due g f p (unfinished p e))

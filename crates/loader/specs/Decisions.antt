@@ -3,14 +3,14 @@ use Prim.Native.Nat.{ℕ}
 use mathlib.Core.Bool.{Bool, cond, not, _&&_}
 use mathlib.Core.List.{List}
 use lib.Dec.{eqb}
-use lib.ListN.{length}
+use lib.ListN.{length, getD}
 use Rattle.compare.specs.Compare.{all}
 use Rattle.flash.specs.Geometry.{unless, geometryCheck}
 use Rattle.flash.specs.declared.geometry.Geometry.{Geometry}
 use Rattle.flash.specs.declared.steps.Step.{Step}
 use Rattle.flash.specs.declared.steps.Step.the-variants.{Byte}
 use Rattle.slots.specs.Exchange.{exchangeStep}
-use Rattle.slots.specs.Flags.{new, updated, flags, wellFormed, progress}
+use Rattle.slots.specs.Flags.{new, updated, flags, wellFormed, lowestUnfinished}
 use Rattle.slots.specs.Places.{imageOf, trailerOf}
 use Rattle.slots.specs.Trailers.{stateAt, renewalOf}
 use Rattle.slots.specs.declared.answers.Work.{Work}
@@ -55,19 +55,19 @@ module _ (k : Checks) (g : Geometry) (f : List ℕ) where
   unfoldable pub finish : ℕ → Bool → Answer
   finish t a = orElse (renewalOf g f Boot t) (spend a)
 
-  -- 1. flags ill-formed; 2. all flags 0; 3. all flags F, and UPDATE is passed over; 4. else the exchange of the lowest sector whose
-  -- flag isn't 0
-  unfoldable pub swapping : ℕ → Bool → Bool → Answer
-  swapping t a b =
+  -- 1. flags ill-formed; 2. all flags 0; 3. all flags F, and UPDATE is passed over; 4. else the step of the lowest sector whose flag isn't
+  -- 0, by its flag
+  unfoldable pub stagedDecision : ℕ → Bool → Bool → Answer
+  stagedDecision t a b =
       let fs : List ℕ = flags (g .count) (trailerOf g f Update) in
       cond (not (wellFormed fs)) (A.Refused 20)
       (cond (all updated fs) (finish t a)
       (cond (all new fs && not (eqb (passedOver b) 0)) (bootOr a (passedOver b))
-      (A.Step (exchangeStep g f (progress fs)))))
+      (let i : ℕ = lowestUnfinished fs in A.Step (exchangeStep g f i (getD fs i 0)))))
 
   -- UPDATE is sound with 70: 1 to 4; otherwise 5, then 6
   unfoldable pub decision : Bool → Bool → Answer
-  decision a b = cond (staged g f) (swapping testing a b) (cond (onTrial g f) (goBack a b) (bootOr a 0))
+  decision a b = cond (staged g f) (stagedDecision testing a b) (cond (onTrial g f) (goBack a b) (bootOr a 0))
 
   -- the next step: the geometry's numbers 1 to 4 first
   unfoldable pub nextStep : Bool → Bool → Answer

@@ -2,6 +2,6 @@ pub mod Checks
 pub mod States
 pub mod Decisions
 pub mod Requests
-pub mod Accepted
+pub mod StepsAccepted
 pub mod Triggered
 pub mod MidSwap

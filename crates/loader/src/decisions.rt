@@ -7,7 +7,7 @@ ghost use lib.ListN.{length};
 ghost use Rattle.flash.specs.Geometry.{geometryCheck};
 ghost use Rattle.slots.specs.Exchange.{exchangeOf};
 ghost use Rattle.loader.specs.Checks.{versionRule, imageChecks};
-ghost use Rattle.loader.specs.Decisions.{orElse, bootOr, goBack, passedOver, spend, finish, swapping, decision};
+ghost use Rattle.loader.specs.Decisions.{orElse, bootOr, goBack, passedOver, spend, finish, stagedDecision, decision};
 use crate::answers::Answer;
 use crate::states::SPENT;
 use crate::states::TESTING;
@@ -125,7 +125,7 @@ fn exchange(flash: &[u8], g: Geometry, end_state: u8, boot_signed: bool, reached
 // Decisions 1 to 4.
 fn swap(flash: &[u8], g: Geometry, end_state: u8, boot_signed: bool, update_signed: bool) -> Answer
     requires { ⌜ geometryCheck g (length (now flash)) ≡ 0 ⌝ }
-    ensures { λ r. ⌜ r ≡ swapping imageChecks g (now (flash .entry)) «end_state» «boot_signed» «update_signed» ⌝ }
+    ensures { λ r. ⌜ r ≡ stagedDecision imageChecks g (now (flash .entry)) «end_state» «boot_signed» «update_signed» ⌝ }
 {
     match slots::progress(flash, g) {
         Progress::Refused(number) => Answer::Refused(number),

@@ -21,15 +21,15 @@ use Rattle.header.specs.Numbers.{numberAt}
 use Rattle.header.specs.Types.{digestType}
 use Rattle.header.specs.Walk.{stepAt, walkIn, walk}
 use Rattle.image.specs.Verdict.{digestOf, verdict}
-use Rattle.slots.specs.Exchange.{source, target, exchangeStep}
-use Rattle.slots.specs.Flags.{half, withHalf, flagAt, flag, tab, flags, wellFormed, stage, progress, nextFlag, flagStep, flagStepOf}
+use Rattle.slots.specs.Exchange.{source, target, nextFlag, exchangeStep}
+use Rattle.slots.specs.Flags.{half, withHalf, flagAt, flag, tab, flags, wellFormed, lowestUnfinished, flagStep, flagStepOf}
 use Rattle.slots.specs.Places.{offset, bytesAt, imageOf}
 use Rattle.slots.specs.Trailers.{stateAt, soundWith, renewedTo, allButState, renew}
 use Rattle.slots.specs.declared.answers.Work.the-variants.{Finished}
 use Rattle.slots.specs.declared.places.Slot.{Slot}
 use Rattle.slots.specs.declared.places.Slot.the-variants.{Boot, Update}
 use Rattle.loader.specs.Checks.{versionRule}
-use Rattle.loader.specs.Decisions.{bootOr, goBack, passedOver, spend, finish, swapping, decision, nextStep}
+use Rattle.loader.specs.Decisions.{bootOr, goBack, passedOver, spend, finish, stagedDecision, decision, nextStep}
 use Rattle.loader.specs.Requests.{swapBegun, triggering, triggerAnswer}
 use Rattle.loader.specs.declared.answers.Answer.the-variants as A
 use Rattle.runner.specs.Counts.{roomy, countsCheck}
@@ -132,8 +132,8 @@ record Ran (o : Outcome) : Type 0 where
 
 looked-run : Ran (withVerdict looked)
 unfolding covered image one two board looked versionRule numberAt stepAt walkIn walk lookup tagsCheck headerCheck versionOf
-    runOf runCheck roomy countsCheck runFor meets exchanged nextStep decision swapping finish spend passedOver bootOr goBack
-    source target exchangeStep half withHalf flagAt flag tab flags wellFormed stage progress nextFlag flagStep flagStepOf offset bytesAt imageOf
+    runOf runCheck roomy countsCheck runFor meets exchanged nextStep decision stagedDecision finish spend passedOver bootOr goBack
+    source target nextFlag exchangeStep half withHalf flagAt flag tab flags wellFormed lowestUnfinished flagStep flagStepOf offset bytesAt imageOf
     stateAt soundWith renewedTo allButState renew same all blank overlay ands write sound placed disjoint geometryCheck sectorStart trailerByte
     markPlace closing stepCheck flashAfter
 looked-run = record { steps = refl; boots = refl; version = refl }

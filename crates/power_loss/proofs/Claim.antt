@@ -15,7 +15,6 @@ use Rattle.flash.specs.Valid.{Valid}
 use Rattle.flash.specs.declared.geometry.Geometry.{Geometry}
 use Rattle.flash.proofs.Areas.{valid}
 use Rattle.header.specs.Checks.{versionOf}
-use Rattle.slots.specs.Exchange.{source, target}
 use Rattle.slots.specs.Flags.{new, flags}
 use Rattle.slots.specs.Places.{offset, bytesAt, imageOf, trailerOf}
 use Rattle.slots.specs.Trailers.{flagCount, renewedTo, renew, renewalOf}
@@ -23,6 +22,7 @@ use Rattle.slots.specs.declared.answers.Work.the-variants.{Finished, Refused}
 use Rattle.slots.specs.declared.places.Place.the-variants.{Sector}
 use Rattle.slots.specs.declared.places.Slot.the-variants.{Boot, Update}
 use Rattle.slots.specs.declared.places.Slot.{Slot}
+use Rattle.slots.proofs.Exchanging.{sourceAt, targetAt}
 use Rattle.loader.specs.Checks.{Checks, versionRule, imageChecks}
 use Rattle.loader.specs.Requests.{swapBegun, triggering, triggerAnswer}
 use Rattle.loader.specs.States.{updating, testing, staged, onTrial}
@@ -96,7 +96,7 @@ module _ (k : Checks) (sig : List ℕ → Bool) (g : Geometry) (f₀ : List ℕ)
   bound₁ = omega (
     arith,
     v .shape .count-min,
-    copy-most t₁ ones (offset g (target 0)) (bytesAt g f₀ (source 0)) (bytesAt g f₀ (target 0)),
+    copy-most t₁ ones (offset g (targetAt 0)) (bytesAt g f₀ (sourceAt 0)) (bytesAt g f₀ (targetAt 0)),
     three-each t₁ 1 (3 * g .count - 1),
     end-most t₁ f₀,
   )

@@ -11,12 +11,13 @@ use borrow.Author.Tests.{eq-eqb, ne-eqb, lt-ltb, le-ltb}
 use lib.Dec.{ltb}
 use Rattle.flash.specs.declared.geometry.Geometry.{Geometry}
 use Rattle.slots.specs.Exchange.{source, target}
+use Rattle.slots.specs.Flags.{flagOf}
 use Rattle.slots.specs.Places.{Within, bytesAt, imageOf}
 use Rattle.slots.specs.declared.places.Place.the-variants.{Sector, Swap}
 use Rattle.slots.specs.declared.places.Place.{Place}
 use Rattle.slots.specs.declared.places.Slot.the-variants.{Boot, Update}
 use Rattle.slots.specs.declared.places.Slot.{Slot}
-use Rattle.slots.proofs.Exchanging.{by-copy, copy-apart}
+use Rattle.slots.proofs.Exchanging.{sourceAt, targetAt, by-copy, copy-apart}
 use Rattle.loader.specs.Checks.{Checks}
 use Rattle.loader.specs.States.{onTrial}
 use Rattle.power_loss.specs.Demand.{Exchanged, Restored}
@@ -33,24 +34,24 @@ cameFrom p Swap = Sector Update (p / 3)
 -- ---- the copies' places by their stage
 
 module _ (p : ℕ) where
-  first-copy : p % 3 ≡ 0 → (source p ≡ Sector Update (p / 3)) × (target p ≡ Swap)
-  unfolding source target
+  first-copy : p % 3 ≡ 0 → (sourceAt p ≡ Sector Update (p / 3)) × (targetAt p ≡ Swap)
+  unfolding source target flagOf
   first-copy e = rw (eq-eqb (p % 3) 0 e) (refl, refl)
 
-  second-copy : p % 3 ≡ 1 → (source p ≡ Sector Boot (p / 3)) × (target p ≡ Sector Update (p / 3))
-  unfolding source target
+  second-copy : p % 3 ≡ 1 → (sourceAt p ≡ Sector Boot (p / 3)) × (targetAt p ≡ Sector Update (p / 3))
+  unfolding source target flagOf
   second-copy e = rw (ne-eqb (p % 3) 0 (omega arith), eq-eqb (p % 3) 1 e) (refl, refl)
 
-  third-copy : p % 3 ≡ 2 → (source p ≡ Swap) × (target p ≡ Sector Boot (p / 3))
-  unfolding source target
+  third-copy : p % 3 ≡ 2 → (sourceAt p ≡ Swap) × (targetAt p ≡ Sector Boot (p / 3))
+  unfolding source target flagOf
   third-copy e = rw (ne-eqb (p % 3) 0 (omega arith), ne-eqb (p % 3) 1 (omega arith)) (refl, refl)
 
 module _ (p : ℕ) where
   -- the target takes what the source holds
-  came-target : cameFrom (suc p) (target p) ≡ cameFrom p (source p)
+  came-target : cameFrom (suc p) (targetAt p) ≡ cameFrom p (sourceAt p)
   came-target = go (ℕ-discrete (p % 3) 0) (ℕ-discrete (p % 3) 1)
     where
-      go : Dec (p % 3 ≡ 0) → Dec (p % 3 ≡ 1) → cameFrom (suc p) (target p) ≡ cameFrom p (source p)
+      go : Dec (p % 3 ≡ 0) → Dec (p % 3 ≡ 1) → cameFrom (suc p) (targetAt p) ≡ cameFrom p (sourceAt p)
       go (yes e) d =
           let i : suc p / 3 ≡ p / 3 = omega arith in
           rw (first-copy p e .0, first-copy p e .1, le-ltb (3 * (p / 3) + 1) p (omega arith), i)
@@ -68,7 +69,7 @@ module _ (p : ℕ) where
       go (no l) = le-ltb x (suc p) (omega arith) ∙ sym (le-ltb x p (omega arith))
 
   -- every other sector keeps what it holds
-  came-other : (q : Place) → target (suc p) ≢ q → target p ≢ q → cameFrom (suc p) q ≡ cameFrom p q
+  came-other : (q : Place) → targetAt (suc p) ≢ q → targetAt p ≢ q → cameFrom (suc p) q ≡ cameFrom p q
   came-other (Sector Boot j) a b =
       rw (ltb-next (3 * j + 2) (λ e. b (third-copy p (omega arith) .1 ∙ ap (λ (i : ℕ). Sector Boot i) (omega arith))))
   came-other (Sector Update j) a b =
@@ -94,8 +95,8 @@ trailer-aside : (g : Geometry) (s : Slot) (q : Place) → Image g q → Sector s
 trailer-aside g s (Sector r i) h e = let j : g .count ≡ i = cc in omega arith
 trailer-aside g s Swap h e = never-same (cc)
 
-source-image : (g : Geometry) (p : ℕ) → p < 3 * g .count → Image g (source p)
-source-image g p h = by-copy (λ a b. Image g a) p (omega arith) (omega arith) tt
+source-image : (g : Geometry) (p : ℕ) → p < 3 * g .count → Image g (sourceAt p)
+source-image g p h = by-copy (λ a b. Image g a) (p / 3) (flagOf p) (omega arith) (omega arith) tt
 
 same-place : (p q : Place) → Dec (p ≡ q)
 same-place (Sector Boot i) (Sector Boot j) = go (ℕ-discrete i j)
@@ -118,24 +119,24 @@ same-place Swap Swap = yes refl
 module _ (k : Checks) (g : Geometry) (f₀ : List ℕ) where
   -- and at its start BOOT is on trial, or UPDATE's image may replace BOOT's
   pub record Contents (p : ℕ) (f : List ℕ) : Type 0 where
-    pub holds : (q : Place) → Image g q → target p ≢ q → bytesAt g f q ≡ bytesAt g f₀ (cameFrom p q)
+    pub holds : (q : Place) → Image g q → targetAt p ≢ q → bytesAt g f q ≡ bytesAt g f₀ (cameFrom p q)
     pub rule : p ≡ 0 → (onTrial g f ≡ true) ⊎ (k .acceptance (imageOf g f₀ Boot) (imageOf g f₀ Update) ≡ 0)
 
-  pub retargets : (p : ℕ) (f f′ d : List ℕ) → p < 3 * g .count → Change g f f′ (target p) d → Contents p f → Contents p f′
+  pub retargets : (p : ℕ) (f f′ d : List ℕ) → p < 3 * g .count → Change g f f′ (targetAt p) d → Contents p f → Contents p f′
   retargets p f f′ d h c x = record {
     holds = λ q i n. c .others q (image-in g q i) n ∙ x .holds q i n;
     rule = λ z. rw (c .others (Sector Boot (g .count)) (omega arith) (target-aside g p h Boot)) (x .rule z);
   }
 
-  pub advances : (p : ℕ) (f f′ d : List ℕ) → p < 3 * g .count → bytesAt g f (source p) ≡ bytesAt g f (target p)
+  pub advances : (p : ℕ) (f f′ d : List ℕ) → p < 3 * g .count → bytesAt g f (sourceAt p) ≡ bytesAt g f (targetAt p)
       → Change g f f′ (Sector Update (g .count)) d → Contents p f → Contents (suc p) f′
   advances p f f′ d h e c x = record {
-    holds = λ q i n. c .others q (image-in g q i) (trailer-aside g Update q i) ∙ go q i n (same-place (target p) q);
+    holds = λ q i n. c .others q (image-in g q i) (trailer-aside g Update q i) ∙ go q i n (same-place (targetAt p) q);
     rule = λ z. absurd (omega arith);
   }
     where
-      go : (q : Place) → Image g q → target (suc p) ≢ q → Dec (target p ≡ q) → bytesAt g f q ≡ bytesAt g f₀ (cameFrom (suc p) q)
-      go q i n (yes y) = rw (← y) (sym e ∙ x .holds (source p) (source-image g p h) (λ z. copy-apart p (sym z))
+      go : (q : Place) → Image g q → targetAt (suc p) ≢ q → Dec (targetAt p ≡ q) → bytesAt g f q ≡ bytesAt g f₀ (cameFrom (suc p) q)
+      go q i n (yes y) = rw (← y) (sym e ∙ x .holds (sourceAt p) (source-image g p h) (λ z. copy-apart (p / 3) (flagOf p) (sym z))
           ∙ ap (bytesAt g f₀) (sym (came-target p)))
       go q i n (no y) = x .holds q i y ∙ ap (bytesAt g f₀) (sym (came-other p q n y))
 
@@ -169,13 +170,13 @@ module _ (k : Checks) (g : Geometry) (f₀ : List ℕ) where
   pub contents-start : (onTrial g f₀ ≡ true) ⊎ (k .acceptance (imageOf g f₀ Boot) (imageOf g f₀ Update) ≡ 0) → Contents 0 f₀
   contents-start r = record { holds = λ q i n. go q n; rule = λ z. r }
     where
-      go : (q : Place) → target 0 ≢ q → bytesAt g f₀ q ≡ bytesAt g f₀ (cameFrom 0 q)
+      go : (q : Place) → targetAt 0 ≢ q → bytesAt g f₀ q ≡ bytesAt g f₀ (cameFrom 0 q)
       go (Sector Boot j) n = rw (le-ltb (3 * j + 2) 0 (omega arith))
       go (Sector Update j) n = rw (le-ltb (3 * j + 1) 0 (omega arith))
       go Swap n = absurd (n (first-copy 0 refl .1))
 
   -- with all flags F, or all 0, the next copy would go to SWAP
-  to-swap : (p : ℕ) → p % 3 ≡ 0 → (s : Slot) (j : ℕ) → target p ≢ Sector s j
+  to-swap : (p : ℕ) → p % 3 ≡ 0 → (s : Slot) (j : ℕ) → targetAt p ≢ Sector s j
   to-swap p e s j q = let z : Swap ≡ Sector s j = sym (first-copy p e .1) ∙ q in never-same (cc)
 
   pub contents-new : (f : List ℕ) → Contents 0 f → Restored g f₀ f

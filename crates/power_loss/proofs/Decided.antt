@@ -13,7 +13,6 @@ use Rattle.flash.specs.Geometry.{geometryCheck}
 use Rattle.flash.specs.declared.geometry.Geometry.{Geometry}
 use Rattle.flash.specs.declared.steps.Step.the-variants.{Byte}
 use Rattle.flash.specs.declared.steps.Step.{Step}
-use Rattle.slots.specs.Exchange.{exchangeStep}
 use Rattle.slots.specs.Flags.{flags, progressOf}
 use Rattle.slots.specs.Places.{imageOf, trailerOf}
 use Rattle.slots.specs.Trailers.{stateAt, renew, renewalOf}
@@ -21,7 +20,7 @@ use Rattle.slots.specs.declared.answers.Progress.the-variants.{At, Refused}
 use Rattle.slots.specs.declared.answers.Work.the-variants.{Due}
 use Rattle.slots.specs.declared.places.Slot.the-variants.{Boot, Update}
 use Rattle.slots.proofs.Corresponding.{one-to-one}
-use Rattle.slots.proofs.Exchanging.{exchange-due, exchange-finished}
+use Rattle.slots.proofs.Exchanging.{exchangeStepAt, exchange-due, exchange-finished}
 use Rattle.loader.specs.Checks.{Checks}
 use Rattle.loader.specs.Decisions.{bootOr, goBack, passedOver, spend, finish, decision, nextStep}
 use Rattle.loader.specs.States.{updating, spent, testing, staged, onTrial}
@@ -94,7 +93,7 @@ module _ (t : Setting) {p : ℕ} {f : List ℕ} (h : Going t p f) where
 
   module _ (k : Checks) (a b : Bool) where
     -- 4, and 3 where all flags are F
-    pub at-exchange : p < 3 * g .count → why k g f b p ≡ 0 → nextStep k g f a b ≡ A.Step (exchangeStep g f p)
+    pub at-exchange : p < 3 * g .count → why k g f b p ≡ 0 → nextStep k g f a b ≡ A.Step (exchangeStepAt g f p)
     unfolding decision
     at-exchange l w =
         decided k g f (h .base .ok) a b

@@ -10,12 +10,12 @@ use Rattle.flash.specs.Cuts.{Bytes}
 use Rattle.flash.specs.Geometry.{geometryCheck}
 use Rattle.flash.specs.declared.geometry.Geometry.{Geometry}
 use Rattle.flash.proofs.Areas.{valid}
-use Rattle.slots.specs.Exchange.{source, target}
 use Rattle.slots.specs.Flags.{flags, progressOf}
 use Rattle.slots.specs.Places.{offset, bytesAt, trailerOf}
 use Rattle.slots.specs.declared.answers.Progress.the-variants as P
 use Rattle.slots.specs.declared.answers.Progress.{Progress}
 use Rattle.slots.specs.declared.places.Slot.the-variants.{Update}
+use Rattle.slots.proofs.Exchanging.{sourceAt, targetAt}
 use Rattle.slots.proofs.Reached.{flags-at, flags-says}
 use Rattle.slots.proofs.Reading.{length-flags}
 use Rattle.loader.specs.Checks.{Checks}
@@ -63,7 +63,7 @@ module _ (k : Checks) (g : Geometry) (f : List ℕ) (bytes : Bytes f) (ok : geom
           by-end (yes l) = within-more
               (omega (
                 arith,
-                copy-most u ones (offset g (target p)) (bytesAt g f (source p)) (bytesAt g f (target p)),
+                copy-most u ones (offset g (targetAt p)) (bytesAt g f (sourceAt p)) (bytesAt g f (targetAt p)),
                 three-each u (suc p) (3 * g .count - suc p),
                 end-most u f,
               ))

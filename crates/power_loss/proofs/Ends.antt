@@ -22,7 +22,6 @@ use Rattle.flash.specs.declared.steps.Step.the-variants.{Byte}
 use Rattle.flash.specs.declared.steps.Step.{Step}
 use Rattle.flash.proofs.Writes.{write-one}
 use Rattle.slots.specs.Correspondence.{FlagsAt}
-use Rattle.slots.specs.Exchange.{source, target}
 use Rattle.slots.specs.Flags.{new, tab, flags}
 use Rattle.slots.specs.Places.{offset, bytesAt, trailerOf}
 use Rattle.slots.specs.Trailers.{state, stateAt, soundWith, renewedTo}
@@ -30,6 +29,7 @@ use Rattle.slots.specs.declared.places.Place.the-variants.{Sector}
 use Rattle.slots.specs.declared.places.Slot.the-variants.{Boot, Update}
 use Rattle.slots.proofs.Corresponding.{one-to-one, flags-new}
 use Rattle.slots.proofs.DueAccepted.{state-accepted}
+use Rattle.slots.proofs.Exchanging.{sourceAt, targetAt}
 use Rattle.slots.proofs.Reading.{length-flags}
 use Rattle.slots.proofs.Renewing.{unsound-with}
 use Rattle.loader.specs.States.{updating, spent, testing, onTrial}
@@ -99,7 +99,7 @@ module _ (t : Setting) (f : List ℕ) (h : Renewing t f) where
         fits = λ w. rw same-boot (omega (
           arith,
           first-copy w,
-          copy-most t w (offset g (target 0)) (bytesAt g f′ (source 0)) (bytesAt g f′ (target 0)),
+          copy-most t w (offset g (targetAt 0)) (bytesAt g f′ (sourceAt 0)) (bytesAt g f′ (targetAt 0)),
         ));
       }
 

@@ -21,16 +21,16 @@ use Rattle.flash.specs.declared.geometry.Geometry.{Geometry}
 use Rattle.flash.specs.declared.steps.Step.the-variants.{Erase, Copy}
 use Rattle.flash.specs.declared.steps.Step.{Step}
 use Rattle.flash.proofs.Writes.{length-blank, length-ands, getD-ands-in}
-use Rattle.slots.specs.Exchange.{source, target, exchangeStep}
+use Rattle.slots.specs.Exchange.{nextFlag, exchangeStep, nextFlagOf}
 use Rattle.slots.specs.FlagWritten.{FlagWritten}
-use Rattle.slots.specs.Flags.{flagAt, flagStep, flagStepOf, nextFlagOf}
+use Rattle.slots.specs.Flags.{flagAt, flagOf, flagStep, flagStepOf}
 use Rattle.slots.specs.Places.{offset, Within, bytesAt, trailerOf}
 use Rattle.slots.specs.Trailers.{soundWith}
 use Rattle.slots.specs.declared.places.Place.the-variants.{Sector}
 use Rattle.slots.specs.declared.places.Slot.the-variants.{Boot, Update}
 use Rattle.slots.specs.declared.places.Slot.{Slot}
 use Rattle.slots.proofs.DueAccepted.{exchange-accepted}
-use Rattle.slots.proofs.Exchanging.{by-copy, copy-in, copy-apart, exchange-due}
+use Rattle.slots.proofs.Exchanging.{sourceAt, targetAt, exchangeStepAt, by-copy, copy-in, copy-apart, exchange-due}
 use Rattle.slots.proofs.Flagging.{next-flag-written}
 use Rattle.power_loss.proofs.Invariant.{Setting, Going, exchanging, finishing, copyCost, copies, copy-most, copy-blank, copy-same, one-copy}
 use Rattle.power_loss.proofs.Invariant.{endCost, cost, Reach, reach-more, Move}
@@ -41,10 +41,10 @@ pub never-same : {A : Type 0} → _≡_ {A = ℕ} 0 1 → A
 never-same e = absurd (omega arith)
 
 -- no copy goes to a trailer
-pub target-aside : (g : Geometry) (p : ℕ) → p < 3 * g .count → (s : Slot) → target p ≢ Sector s (g .count)
+pub target-aside : (g : Geometry) (p : ℕ) → p < 3 * g .count → (s : Slot) → targetAt p ≢ Sector s (g .count)
 target-aside g p h s =
     let i : p / 3 < g .count = omega arith in
-    by-copy (λ a b. b ≢ Sector s (g .count)) p (λ e. never-same (cc)) (λ e. let j : p / 3 ≡ g .count = cc in omega arith)
+    by-copy (λ a b. b ≢ Sector s (g .count)) (p / 3) (flagOf p) (λ e. never-same (cc)) (λ e. let j : p / 3 ≡ g .count = cc in omega arith)
     (λ e. let j : p / 3 ≡ g .count = cc in omega arith)
 
 -- FF takes whatever bytes are written to it
@@ -63,21 +63,21 @@ module _ (t : Setting) (f : List ℕ) (p left : ℕ) (eq : suc p + left ≡ 3 * 
   here = omega arith
 
   abbrev src : List ℕ
-  src = bytesAt g f (source p)
+  src = bytesAt g f (sourceAt p)
 
   abbrev tgt : List ℕ
-  tgt = bytesAt g f (target p)
+  tgt = bytesAt g f (targetAt p)
 
   abbrev at : ℕ
-  at = offset g (target p)
+  at = offset g (targetAt p)
 
-  in-source : Within g (source p)
-  in-source = copy-in g p here .0
+  in-source : Within g (sourceAt p)
+  in-source = copy-in g (p / 3) (flagOf p) (omega arith) .0
 
-  in-target : Within g (target p)
-  in-target = copy-in g p here .1
+  in-target : Within g (targetAt p)
+  in-target = copy-in g (p / 3) (flagOf p) (omega arith) .1
 
-  accept : (s : Step) → exchangeStep g f p ≡ s → accepted g s ≡ true
+  accept : (s : Step) → exchangeStepAt g f p ≡ s → accepted g s ≡ true
   accept s e = rw (exchange-due g f p here, e) at (exchange-accepted g f (base-valid (h .base)) p)
 
   -- what is to be done after this copy
@@ -86,7 +86,7 @@ module _ (t : Setting) (f : List ℕ) (p left : ℕ) (eq : suc p + left ≡ 3 * 
 
   -- ---- the target alone changes
 
-  retarget : (f′ d : List ℕ) (m : Weight → ℕ) → Change g f f′ (target p) d → ((w : Weight) → copyCost t w at src d ≤ m w)
+  retarget : (f′ d : List ℕ) (m : Weight → ℕ) → Change g f f′ (targetAt p) d → ((w : Weight) → copyCost t w at src d ≤ m w)
       → Reach t f′ (λ w. m w + rest w)
   retarget f′ d m c le = record {
     late = false;
@@ -96,7 +96,7 @@ module _ (t : Setting) (f : List ℕ) (p left : ℕ) (eq : suc p + left ≡ 3 * 
       reached = rw (trailer Update) (h .reached);
       held = t .retargets p f f′ d here c (h .held);
     });
-    fits = λ w. rw (c .others (source p) in-source (λ e. copy-apart p (sym e)), c .holds, trailer Boot) (omega (arith, le w));
+    fits = λ w. rw (c .others (sourceAt p) in-source (λ e. copy-apart (p / 3) (flagOf p) (sym e)), c .holds, trailer Boot) (omega (arith, le w));
   }
     where
       trailer : (s : Slot) → trailerOf g f′ s ≡ trailerOf g f s
@@ -104,32 +104,32 @@ module _ (t : Setting) (f : List ℕ) (p left : ℕ) (eq : suc p + left ≡ 3 * 
 
   -- the power is lost on a copy or an erase
   anything : (f′ : List ℕ) → Torn g f at f′ → Reach t f′ (λ w. most w at + rest w)
-  anything f′ x = retarget f′ (x .left) (λ w. most w at) (torn (h .base) (target p) in-target f′ x) (λ w. copy-most t w at src (x .left))
+  anything f′ x = retarget f′ (x .left) (λ w. most w at) (torn (h .base) (targetAt p) in-target f′ x) (λ w. copy-most t w at src (x .left))
 
   move-copy : ((w : Weight) → copyCost t w at src tgt ≡ w .writes + w .writes) → all 0xFF tgt ≡ true
-      → accepted g (Copy (offset g (source p)) at) ≡ true → Move t (exchanging p left eq h) (Copy (offset g (source p)) at)
+      → accepted g (Copy (offset g (sourceAt p)) at) ≡ true → Move t (exchanging p left eq h) (Copy (offset g (sourceAt p)) at)
   unfolding blank
   move-copy costs e a = record {
     left = λ w. w .writes + rest w;
     less = λ w. omega (arith, costs w);
-    whole = retarget (applied g f (Copy (offset g (source p)) at)) src (λ w. w .writes)
-        (stepped (h .base) (target p) in-target (Copy (offset g (source p)) at) a (omega arith, omega arith) src
-        (on (h .base) (target p) in-target .copied (source p) in-source
-        ∙ rw is-blank (ands-blank (g .size) src (sector-size (h .base) (source p) in-source) (sector-bytes (h .base) (source p) in-source))))
+    whole = retarget (applied g f (Copy (offset g (sourceAt p)) at)) src (λ w. w .writes)
+        (stepped (h .base) (targetAt p) in-target (Copy (offset g (sourceAt p)) at) a (omega arith, omega arith) src
+        (on (h .base) (targetAt p) in-target .copied (sourceAt p) in-source
+        ∙ rw is-blank (ands-blank (g .size) src (sector-size (h .base) (sourceAt p) in-source) (sector-bytes (h .base) (sourceAt p) in-source))))
         (λ w. omega (arith, copy-same t w at src));
     keeps = λ q. absurd (false≢true q);
     broken = λ f′ c. reach-more t (λ w. omega (arith, costs w)) (anything f′ c);
   }
     where
       is-blank : tgt ≡ blank (g .size)
-      is-blank = all-only 0xFF tgt e ∙ ap blank (sector-size (h .base) (target p) in-target)
+      is-blank = all-only 0xFF tgt e ∙ ap blank (sector-size (h .base) (targetAt p) in-target)
 
   move-erase : ((w : Weight) → copyCost t w at src tgt ≡ most w at) → Move t (exchanging p left eq h) (Erase at)
   move-erase costs = record {
     left = λ w. w .writes + w .writes + rest w;
     less = λ w. omega (arith, costs w);
     whole = retarget (applied g f (Erase at)) (blank (g .size)) (λ w. w .writes + w .writes)
-        (erased (h .base) (target p) in-target) (λ w. copy-blank t w at src (g .size));
+        (erased (h .base) (targetAt p) in-target) (λ w. copy-blank t w at src (g .size));
     keeps = λ q. absurd (false≢true q);
     broken = λ f′ c. reach-more t (λ w. omega (arith, costs w)) (anything f′ (c .0));
   }
@@ -137,7 +137,7 @@ module _ (t : Setting) (f : List ℕ) (p left : ℕ) (eq : suc p + left ≡ 3 * 
   -- ---- the flag takes the swap on
 
   abbrev flag : Step
-  flag = flagStepOf g f p
+  flag = flagStepOf g f (p / 3) (nextFlag (flagOf p))
 
   module _ (e : src ≡ tgt) (a : accepted g flag ≡ true) where
     written : FlagWritten g f p flag
@@ -176,8 +176,8 @@ module _ (t : Setting) (f : List ℕ) (p left : ℕ) (eq : suc p + left ≡ 3 * 
           fits = λ w. rw same-boot (omega (
             arith,
             one-copy t w (suc p) m,
-            copy-most t w (offset g (target (suc p)))
-                (bytesAt g (applied g f flag) (source (suc p))) (bytesAt g (applied g f flag) (target (suc p))),
+            copy-most t w (offset g (targetAt (suc p)))
+                (bytesAt g (applied g f flag) (sourceAt (suc p))) (bytesAt g (applied g f flag) (targetAt (suc p))),
           ));
         }
 
@@ -198,12 +198,12 @@ module _ (t : Setting) (f : List ℕ) (p left : ℕ) (eq : suc p + left ≡ 3 * 
         cut f′ (inl q) = rw q (record { late = false; phase = exchanging p left eq h; fits = λ w. omega arith })
         cut f′ (inr q) = rw q (reach-more t (λ w. omega arith) done)
 
-  pub move-exchanging : Move t (exchanging p left eq h) (exchangeStep g f p)
+  pub move-exchanging : Move t (exchanging p left eq h) (exchangeStepAt g f p)
   unfolding exchangeStep copyCost
   move-exchanging = go (same src tgt) refl (all 0xFF tgt) refl
     where
       go : (x : Bool) → same src tgt ≡ x → (y : Bool) → all 0xFF tgt ≡ y
-          → Move t (exchanging p left eq h) (cond x flag (cond y (Copy (offset g (source p)) at) (Erase at)))
+          → Move t (exchanging p left eq h) (cond x flag (cond y (Copy (offset g (sourceAt p)) at) (Erase at)))
       go true q y r = move-flag (same-equal src tgt q) (accept flag (rw q))
-      go false q true r = move-copy (λ w. rw (q, r)) r (accept (Copy (offset g (source p)) at) (rw (q, r)))
+      go false q true r = move-copy (λ w. rw (q, r)) r (accept (Copy (offset g (sourceAt p)) at) (rw (q, r)))
       go false q false r = move-erase (λ w. rw (q, r))

@@ -11,11 +11,11 @@ use Rattle.flash.specs.Steps.{applied}
 use Rattle.flash.specs.declared.geometry.Geometry.{Geometry}
 use Rattle.flash.specs.declared.steps.Step.the-variants.{Byte}
 use Rattle.flash.specs.declared.steps.Step.{Step}
-use Rattle.slots.specs.Exchange.{exchangeStep}
 use Rattle.slots.specs.Places.{imageOf}
 use Rattle.slots.specs.Trailers.{stateAt}
 use Rattle.slots.specs.declared.answers.Progress.the-variants as P
 use Rattle.slots.specs.declared.places.Slot.the-variants.{Boot, Update}
+use Rattle.slots.proofs.Exchanging.{exchangeStepAt}
 use Rattle.loader.specs.Checks.{Checks}
 use Rattle.loader.specs.Decisions.{bootOr, nextStep}
 use Rattle.loader.specs.States.{spent, onTrial}
@@ -70,16 +70,16 @@ module _ (k : Checks) (g : Geometry) (o : List ℕ) where
       ph : Phase t f false
       ph = exchanging p left e h
 
-      mv : Move t ph (exchangeStep g f p)
+      mv : Move t ph (exchangeStepAt g f p)
       mv = move-exchanging t f p left e h
 
       go : ((f′ : List ℕ) (a′ b′ : Bool) (late : Bool) (p′ : Phase t f′ late) → Within m (limit p′) (runFor k g m a′ b′ f′))
           → (c : Bool) → eqb (why k g f b p) 0 ≡ c → Within (suc m) (limit ph) (runFor k g (suc m) a b f)
       go rec true q =
-          goes-on m (limit ph) (limit (mv .whole .phase)) f a b (exchangeStep g f p)
+          goes-on m (limit ph) (limit (mv .whole .phase)) f a b (exchangeStepAt g f p)
           (at-exchange t h k a b (omega arith) (eqb-true (why k g f b p) 0 q))
-          (omega (arith, of-one (exchangeStep g f p) .0, mv .less ones, mv .whole .fits ones))
-          (λ a′ b′. rec (applied g f (exchangeStep g f p)) a′ b′ (mv .whole .late) (mv .whole .phase))
+          (omega (arith, of-one (exchangeStepAt g f p) .0, mv .less ones, mv .whole .fits ones))
+          (λ a′ b′. rec (applied g f (exchangeStepAt g f p)) a′ b′ (mv .whole .late) (mv .whole .phase))
       go rec false q = stops k g f a b (bootOr k g f a (why k g f b p)) (at-passed-over t h k a b q)
           (boot-ends k g f (h .base .ok) a b (why k g f b p)) (suc m) (limit ph)
   found-run (suc m) f a b (finishing h) = go (λ f′ a′ b′ late p′. found-run m f′ a′ b′ {late = late} p′) (onTrial g f) refl

@@ -14,12 +14,12 @@ use Rattle.flash.specs.Steps.{applied}
 use Rattle.flash.specs.declared.geometry.Geometry.{Geometry}
 use Rattle.flash.specs.declared.steps.Step.{Step}
 use Rattle.slots.specs.Correspondence.{FlagsAt}
-use Rattle.slots.specs.Exchange.{source, target}
 use Rattle.slots.specs.Flags.{flags}
 use Rattle.slots.specs.Places.{offset, bytesAt, trailerOf}
 use Rattle.slots.specs.declared.places.Place.the-variants.{Sector}
 use Rattle.slots.specs.declared.places.Slot.the-variants.{Boot, Update}
 use Rattle.slots.specs.declared.places.Slot.{Slot}
+use Rattle.slots.proofs.Exchanging.{sourceAt, targetAt}
 use Rattle.loader.specs.States.{updating, testing, staged, onTrial}
 use Rattle.power_loss.proofs.OneSector.{Base, Change}
 use Rattle.power_loss.proofs.Renewal.{renewCost}
@@ -33,8 +33,8 @@ pub record Setting : Type 1 where
   pub Held : ℕ → List ℕ → Type 0
   pub Returns : Type 0
   -- the current target changes; its flag is written where it equals the source
-  pub retargets : (p : ℕ) (f f′ d : List ℕ) → p < 3 * g .count → Change g f f′ (target p) d → Held p f → Held p f′
-  pub advances : (p : ℕ) (f f′ d : List ℕ) → p < 3 * g .count → bytesAt g f (source p) ≡ bytesAt g f (target p)
+  pub retargets : (p : ℕ) (f f′ d : List ℕ) → p < 3 * g .count → Change g f f′ (targetAt p) d → Held p f → Held p f′
+  pub advances : (p : ℕ) (f f′ d : List ℕ) → p < 3 * g .count → bytesAt g f (sourceAt p) ≡ bytesAt g f (targetAt p)
       → Change g f f′ (Sector Update (g .count)) d → Held p f → Held (suc p) f′
   -- a trailer changes before the first sector, or after the last
   pub starts : (f f′ d : List ℕ) → Change g f f′ (Sector Update (g .count)) d → Held 0 f → Held 0 f′
@@ -80,7 +80,7 @@ module _ (t : Setting) where
   copyCost w at a b = cond (same a b) (w .writes) (cond (all 0xFF b) (w .writes + w .writes) (most w at))
 
   abbrev pub copyMost : Weight → ℕ → ℕ
-  copyMost w p = most w (offset g (target p))
+  copyMost w p = most w (offset g (targetAt p))
 
   -- m whole copies from the progress p on
   unfoldable pub copies : Weight → ℕ → ℕ → ℕ
@@ -96,7 +96,7 @@ module _ (t : Setting) where
   abbrev pub cost : {f : List ℕ} {k : Bool} → Weight → Phase f k → ℕ
   cost {f} w (renewing h) = startCost w f + copies w 0 (3 * g .count) + endCost w f
   cost {f} w (exchanging p left e h) =
-      copyCost w (offset g (target p)) (bytesAt g f (source p)) (bytesAt g f (target p)) + copies w (suc p) left + endCost w f
+      copyCost w (offset g (targetAt p)) (bytesAt g f (sourceAt p)) (bytesAt g f (targetAt p)) + copies w (suc p) left + endCost w f
   cost {f} w (finishing h) = endCost w f
 
   module _ (w : Weight) (at : ℕ) (a : List ℕ) where

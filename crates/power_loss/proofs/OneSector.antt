@@ -9,7 +9,7 @@ use native.Mathlib.Omega.{arith}
 use lib.Bits.{and-le-l}
 use lib.ListN.{length, take, drop, getD, getD-replicate, List·getD-eq-default}
 use Rattle.flash.specs.Bytes.{blank, overlay, write}
-use Rattle.flash.specs.Changes.{target, targetSize, Lies, InAreas, Only}
+use Rattle.flash.specs.Changes.{targetStart, targetSize, Lies, InAreas, Only}
 use Rattle.flash.specs.Cuts.{Bytes, Torn}
 use Rattle.flash.specs.Geometry.{geometryCheck}
 use Rattle.flash.specs.Steps.{closing, accepted, applied}
@@ -128,20 +128,20 @@ module _ {g : Geometry} {o f : List ℕ} (b : Base g o f) where
   step-bytes (Mark at) a = write-bytes f at closing (omega (arith, length-closing, target-fits g (length f) base-valid (Mark at) a)) (b .bytes)
 
   module _ (p : Place) (w : Within g p) where
-    within : (f′ : List ℕ) (s : Step) → accepted g s ≡ true → Lies (target s) (targetSize g s) (offset g p) (g .size)
-        → Only f f′ (target s) (targetSize g s) → Bytes f′ → Change g f f′ p (bytesAt g f′ p)
+    within : (f′ : List ℕ) (s : Step) → accepted g s ≡ true → Lies (targetStart s) (targetSize g s) (offset g p) (g .size)
+        → Only f f′ (targetStart s) (targetSize g s) → Bytes f′ → Change g f f′ p (bytesAt g f′ p)
     within f′ s a l only bs = record {
       holds = refl;
-      others = λ q u n. sectors g f base-valid .others p w f′ (target s) (targetSize g s) only l q u n;
+      others = λ q u n. sectors g f base-valid .others p w f′ (targetStart s) (targetSize g s) only l q u n;
       bytes = bs;
-      kept = kept-only g f f′ (target s) (targetSize g s) (target-inside g (length f) base-valid s a) only;
+      kept = kept-only g f f′ (targetStart s) (targetSize g s) (target-inside g (length f) base-valid s a) only;
     }
 
     holding : {f′ d : List ℕ} → Change g f f′ p (bytesAt g f′ p) → bytesAt g f′ p ≡ d → Change g f f′ p d
     holding c e = record { holds = e; others = c .others; bytes = c .bytes; kept = c .kept }
 
     -- a whole step within the sector
-    pub stepped : (s : Step) → accepted g s ≡ true → Lies (target s) (targetSize g s) (offset g p) (g .size)
+    pub stepped : (s : Step) → accepted g s ≡ true → Lies (targetStart s) (targetSize g s) (offset g p) (g .size)
         → (d : List ℕ) → bytesAt g (applied g f s) p ≡ d → Change g f (applied g f s) p d
     stepped s a l d e =
         holding (within (applied g f s) s a l (changes .only g f s (step-passes g (length f) s (b .ok) a) .whole) (step-bytes s a)) e

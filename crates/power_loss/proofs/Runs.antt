@@ -10,11 +10,11 @@ use Rattle.flash.specs.Steps.{applied}
 use Rattle.flash.specs.declared.geometry.Geometry.{Geometry}
 use Rattle.flash.specs.declared.steps.Step.the-variants.{Byte}
 use Rattle.flash.specs.declared.steps.Step.{Step}
-use Rattle.slots.specs.Exchange.{source, target, exchangeStep}
 use Rattle.slots.specs.Places.{offset, bytesAt, imageOf, trailerOf}
 use Rattle.slots.specs.Trailers.{stateAt}
 use Rattle.slots.specs.declared.places.Slot.the-variants.{Boot, Update}
 use Rattle.slots.specs.declared.places.Slot.{Slot}
+use Rattle.slots.proofs.Exchanging.{sourceAt, targetAt, exchangeStepAt}
 use Rattle.loader.specs.Checks.{Checks}
 use Rattle.loader.specs.Decisions.{nextStep}
 use Rattle.loader.specs.States.{updating, spent, testing, onTrial}
@@ -74,7 +74,7 @@ module _ (t : Setting) where
   at-most {f} (renewing h) =
       omega (arith, renew-most ones g Update updating (trailerOf g f Update), three-each 0 (3 * g .count), end-most f)
   at-most {f} (exchanging p left e h) =
-      omega (arith, copy-most t ones (offset g (target p)) (bytesAt g f (source p)) (bytesAt g f (target p)), three-each (suc p) left, end-most f)
+      omega (arith, copy-most t ones (offset g (targetAt p)) (bytesAt g f (sourceAt p)) (bytesAt g f (targetAt p)), three-each (suc p) left, end-most f)
   at-most {f} (finishing h) = omega (arith, end-most f)
 
 -- ---- the next step, in a list that began with f₀: a and b are the checker's answers for the images of BOOT and UPDATE in f₀
@@ -115,7 +115,7 @@ module _ (k : Checks) (g : Geometry) (f₀ o : List ℕ) (a b : Bool) where
 
     next-exchanging : (p left : ℕ) (e : suc p + left ≡ 3 * g .count) (h : Going t p f) → Next (exchanging p left e h)
     next-exchanging p left e h =
-        onward (exchangeStep g f p) (at-exchange t h k a b (omega arith) (allowed p h)) (move-exchanging t f p left e h)
+        onward (exchangeStepAt g f p) (at-exchange t h k a b (omega arith) (allowed p h)) (move-exchanging t f p left e h)
 
     next-finishing : (h : Going t (3 * g .count) f) → Next (finishing h)
     next-finishing h = go (onTrial g f) refl

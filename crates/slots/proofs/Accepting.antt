@@ -16,7 +16,7 @@ use Rattle.flash.specs.declared.steps.Step.the-variants.{Copy, Byte, Mark}
 use Rattle.compare.proofs.Tests.{and-left, and-right, and-both, or-cases, or-left, or-right}
 use Rattle.flash.proofs.Areas.{valid}
 use Rattle.flash.proofs.Targets.{within-is, start-on, by-area}
-use Rattle.slots.specs.Accepted.{Starts, IntoTrailer, Accepted, AtPlaces}
+use Rattle.slots.specs.AtPlaces.{Starts, IntoTrailer, PlacesAccepted, AtPlaces}
 use Rattle.slots.specs.Places.{start, offset, Within}
 use Rattle.slots.specs.declared.places.Place.{Place}
 use Rattle.slots.specs.declared.places.Place.the-variants.{Sector, Swap}
@@ -165,7 +165,7 @@ module _ (g : Geometry) (len : ℕ) (v : Valid g len) where
       at-end : (s : Slot) → eqb at (start g s + slotSize g - 4) ≡ true → IntoTrailer g (z - 4) at
       at-end s w = let q = eqb-true at (start g s + slotSize g - 4) w in (s, omega (arith, trailer-is s, v .shape .size-min))
 
-  pub accepts : Accepted g
+  pub accepts : PlacesAccepted g
   accepts = record {
     erase = erase;
     erase-only = erase-only;

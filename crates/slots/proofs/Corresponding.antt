@@ -12,13 +12,14 @@ use lib.ListN.{length, set, replicate, length-replicate}
 use Rattle.compare.specs.Compare.{all}
 use Rattle.compare.proofs.Tests.{and-left, and-right, or-cases}
 use Rattle.compare.proofs.Values.{all-replicate, all-only}
-use Rattle.slots.specs.Correspondence.{flagFor, flagsFor, FlagsAt, Says, OneToOne}
-use Rattle.slots.specs.Flags.{wellFormed, stage, progress, finishedIn, nextFlag}
+use Rattle.slots.specs.Correspondence.{flagsFor, FlagsAt, Says, OneToOne}
+use Rattle.slots.specs.Exchange.{nextFlag}
+use Rattle.slots.specs.Flags.{wellFormed, lowestUnfinished, stage, progress, flagOf}
 
 -- ---- the flags of a progress, one sector at a time
 
 module _ (n p : ℕ) where
-  pub first-sector : p < 3 → flagsFor (suc n) p ≡ flagFor p ∷ replicate n 15
+  pub first-sector : p < 3 → flagsFor (suc n) p ≡ flagOf p ∷ replicate n 15
   unfolding flagsFor
   first-sector h = rw (lt-ltb p 3 h)
 
@@ -36,12 +37,12 @@ by-stage P a b c (suc (suc (suc p))) h = absurd (omega arith)
 -- ---- forth
 
 module _ (n : ℕ) (p : ℕ) where
-  starts : p < 3 → FlagsAt (suc n) p (flagFor p ∷ replicate n 15)
-  unfolding flagFor wellFormed progress stage
-  starts h = by-stage (λ q. FlagsAt (suc n) q (flagFor q ∷ replicate n 15)) (at 0 refl refl) (at 1 refl refl) (at 2 refl refl) p h
+  starts : p < 3 → FlagsAt (suc n) p (flagOf p ∷ replicate n 15)
+  unfolding flagOf wellFormed progress stage
+  starts h = by-stage (λ q. FlagsAt (suc n) q (flagOf q ∷ replicate n 15)) (at 0 refl refl) (at 1 refl refl) (at 2 refl refl) p h
     where
-      at : (q : ℕ) → wellFormed (flagFor q ∷ replicate n 15) ≡ all 15 (replicate n 15) → progress (flagFor q ∷ replicate n 15) ≡ q
-          → FlagsAt (suc n) q (flagFor q ∷ replicate n 15)
+      at : (q : ℕ) → wellFormed (flagOf q ∷ replicate n 15) ≡ all 15 (replicate n 15) → progress (flagOf q ∷ replicate n 15) ≡ q
+          → FlagsAt (suc n) q (flagOf q ∷ replicate n 15)
       at q a b = record { count = ap suc (length-replicate n 15); formed = a ∙ all-replicate 15 n; reached = b }
 
   goes-on : (fs : List ℕ) → 3 ≤ p → FlagsAt n (p - 3) fs → FlagsAt (suc n) p (0 ∷ fs)
@@ -62,10 +63,10 @@ stands (suc n) p h = go (decLt p 3) (stands n (p - 3))
 -- the first sector is finished, or it is the current one and the rest is new
 data Begins (n p x : ℕ) (xs : List ℕ) : Type 0 where
   finished : x ≡ 0 → 3 ≤ p → FlagsAt n (p - 3) xs → Begins n p x xs
-  current : p < 3 → x ≡ flagFor p → xs ≡ replicate n 15 → Begins n p x xs
+  current : p < 3 → x ≡ flagOf p → xs ≡ replicate n 15 → Begins n p x xs
 
 begins : (n p x : ℕ) (xs : List ℕ) → FlagsAt (suc n) p (x ∷ xs) → Begins n p x xs
-unfolding wellFormed progress stage flagFor
+unfolding wellFormed progress stage flagOf
 begins n p x xs e = go (eqb x 0) refl (e .formed) (e .reached)
   where
     count : length xs ≡ n
@@ -74,11 +75,11 @@ begins n p x xs e = go (eqb x 0) refl (e .formed) (e .reached)
     new : all 15 xs ≡ true → xs ≡ replicate n 15
     new a = all-only 15 xs a ∙ ap (λ (k : ℕ). replicate k 15) count
 
-    is : (v : ℕ) → eqb x v ≡ true → (stage v < 3) × (v ≡ flagFor (stage v)) → stage x ≡ p → all 15 xs ≡ true → Begins n p x xs
+    is : (v : ℕ) → eqb x v ≡ true → (stage v < 3) × (v ≡ flagOf (stage v)) → stage x ≡ p → all 15 xs ≡ true → Begins n p x xs
     is v q d r a =
         let w : x ≡ v = eqb-true x v q in
         let s : stage v ≡ p = rw w at r in
-        current (omega (arith, d .0, s)) (w ∙ d .1 ∙ ap flagFor s) (new a)
+        current (omega (arith, d .0, s)) (w ∙ d .1 ∙ ap flagOf s) (new a)
 
     one : (eqb x 7 ≡ true) ⊎ (eqb x 3 ≡ true) → stage x ≡ p → all 15 xs ≡ true → Begins n p x xs
     one (inl q) r a = is 7 q (omega arith, refl) r a
@@ -103,7 +104,7 @@ eqb-later p n h = go (ℕ-discrete p (3 * suc n))
     go (no e) = ne-eqb (p - 3) (3 * n) (λ q. e (omega arith)) ∙ sym (ne-eqb p (3 * suc n) e)
 
 says-finished : (n p : ℕ) (xs : List ℕ) → 3 ≤ p → Says n (p - 3) xs → Says (suc n) p (0 ∷ xs)
-unfolding all finishedIn
+unfolding all lowestUnfinished flagOf
 says-finished n p xs h s = record {
   bound = omega (arith, s .bound);
   only = ap (λ (l : List ℕ). 0 ∷ l) (s .only) ∙ sym (later-sector n p h);
@@ -116,13 +117,13 @@ says-finished n p xs h s = record {
       (ap suc (c .0) ∙ sym d, rw (d, m) (c .1));
 }
 
-says-current : (n p : ℕ) → p < 3 → Says (suc n) p (flagFor p ∷ replicate n 15)
-unfolding all finishedIn flagFor
-says-current n p h = by-stage (λ q. Says (suc n) q (flagFor q ∷ replicate n 15)) (at 0 (omega arith) (all-replicate 15 n) refl refl)
+says-current : (n p : ℕ) → p < 3 → Says (suc n) p (flagOf p ∷ replicate n 15)
+unfolding all lowestUnfinished flagOf
+says-current n p h = by-stage (λ q. Says (suc n) q (flagOf q ∷ replicate n 15)) (at 0 (omega arith) (all-replicate 15 n) refl refl)
     (at 1 (omega arith) refl refl refl) (at 2 (omega arith) refl refl refl) p h
   where
-    at : (q : ℕ) → q < 3 → all 15 (flagFor q ∷ replicate n 15) ≡ eqb q 0 → all 0 (flagFor q ∷ replicate n 15) ≡ false
-        → finishedIn (flagFor q ∷ replicate n 15) ≡ 0 → Says (suc n) q (flagFor q ∷ replicate n 15)
+    at : (q : ℕ) → q < 3 → all 15 (flagOf q ∷ replicate n 15) ≡ eqb q 0 → all 0 (flagOf q ∷ replicate n 15) ≡ false
+        → lowestUnfinished (flagOf q ∷ replicate n 15) ≡ 0 → Says (suc n) q (flagOf q ∷ replicate n 15)
     at q l a b c = record {
       bound = omega arith;
       only = sym (first-sector n q l);
@@ -130,8 +131,7 @@ says-current n p h = by-stage (λ q. Says (suc n) q (flagFor q ∷ replicate n 1
       all-updated = b ∙ sym (ne-eqb q (3 * suc n) (omega arith));
       current = λ r.
           let d : q / 3 ≡ 0 = omega arith in
-          let m : q % 3 ≡ q = omega arith in
-          (c ∙ sym d, rw (d, m));
+          (c ∙ sym d, rw d);
     }
 
 says : (n p : ℕ) (fs : List ℕ) → FlagsAt n p fs → Says n p fs
@@ -154,19 +154,19 @@ one-to-one n = record { stands = stands n; says = says n }
 
 -- new flags, and one flag more
 pub flags-new : (n : ℕ) → flagsFor n 0 ≡ replicate n 15
-unfolding flagsFor flagFor
+unfolding flagsFor flagOf
 flags-new zero = refl
 flags-new (suc n) = refl
 
 abbrev Next : ℕ → ℕ → Type 0
-Next n p = set (flagsFor n p) (p / 3) (nextFlag p) ≡ flagsFor n (p + 1)
+Next n p = set (flagsFor n p) (p / 3) (nextFlag (flagOf p)) ≡ flagsFor n (p + 1)
 
 next-first : (n p : ℕ) → p < 3 → Next (suc n) p
-unfolding flagsFor flagFor nextFlag
+unfolding flagsFor flagOf nextFlag
 next-first n p h = by-stage (λ q. Next (suc n) q) refl refl (ap (λ (l : List ℕ). 0 ∷ l) (sym (flags-new n))) p h
 
 next-later : (n p : ℕ) → 3 ≤ p → Next n (p - 3) → Next (suc n) p
-unfolding nextFlag
+unfolding flagOf
 next-later n p h e =
     let d : p / 3 ≡ suc ((p - 3) / 3) = omega arith in
     let m : p % 3 ≡ (p - 3) % 3 = omega arith in

@@ -14,10 +14,10 @@ use Rattle.flash.specs.Steps.{accepted}
 use Rattle.flash.specs.Valid.{Apart, Valid}
 use Rattle.flash.specs.declared.geometry.Geometry.{Geometry}
 use Rattle.flash.specs.declared.steps.Step.the-variants.{Byte}
-use Rattle.slots.specs.Accepted.{Accepted}
-use Rattle.slots.specs.Exchange.{source, target, exchangeStep, exchangeOf}
-use Rattle.slots.specs.Flags.{withHalf, flagAt, nextFlag, flagStep, flagStepOf}
-use Rattle.slots.specs.Places.{offset, bytesAt, trailerOf}
+use Rattle.slots.specs.AtPlaces.{PlacesAccepted}
+use Rattle.slots.specs.Exchange.{source, target, nextFlag, exchangeStep, exchangeOf}
+use Rattle.slots.specs.Flags.{withHalf, flagAt, flagOf, flagStep, flagStepOf}
+use Rattle.slots.specs.Places.{offset, Within, bytesAt, trailerOf}
 use Rattle.slots.specs.Trailers.{stateAt, flagCount, renewedTo, allButState, renew, renewalOf}
 use Rattle.slots.specs.declared.answers.Work.{Work}
 use Rattle.slots.specs.declared.answers.Work.the-variants.{Due, Finished, Refused}
@@ -35,7 +35,7 @@ DueAccepted g Finished = Unit {0}
 DueAccepted g (Refused n) = Unit {0}
 
 module _ (g : Geometry) (f : List ℕ) (v : Valid g (length f)) where
-  allowed : Accepted g
+  allowed : PlacesAccepted g
   allowed = accepts g (length f) v
 
   trailer-size : (s : Slot) → length (trailerOf g f s) ≡ g .size
@@ -68,34 +68,39 @@ module _ (g : Geometry) (f : List ℕ) (v : Valid g (length f)) where
       mark-place : at + length t - 4 ≡ at + (g .size - 4)
       mark-place = omega (arith, trailer-size s, v .shape .size-min)
 
-  flag-accepted : (p : ℕ) → p < 3 * g .count → accepted g (flagStepOf g f p) ≡ true
+  flag-accepted : (i w : ℕ) → accepted g (flagStepOf g f i w) ≡ true
   unfolding flagStepOf flagStep flagAt
-  flag-accepted p h =
+  flag-accepted i w =
       let t : List ℕ = trailerOf g f Update in
-      let k : ℕ = flagAt (length t) (p / 3) in
-      byte-in Update k (withHalf (p / 3) (nextFlag p) (getD t k 0)) (omega (arith, trailer-size Update, v .shape .size-min))
+      let k : ℕ = flagAt (length t) i in
+      byte-in Update k (withHalf i w (getD t k 0)) (omega (arith, trailer-size Update, v .shape .size-min))
 
-  step-accepted : (p : ℕ) → p < 3 * g .count → accepted g (exchangeStep g f p) ≡ true
+  step-accepted : (i w : ℕ) → i < g .count → accepted g (exchangeStep g f i w) ≡ true
   unfolding exchangeStep
-  step-accepted p h =
-      by-test (λ d. accepted g d ≡ true) (same (bytesAt g f (source p)) (bytesAt g f (target p))) (λ _. flag-accepted p h)
-      (λ _. by-test (λ d. accepted g d ≡ true) (all 0xFF (bytesAt g f (target p)))
-      (λ _. allowed .copy from to (source p, (copy-in g p h .0, refl)) (target p, (copy-in g p h .1, refl)) two)
-      (λ _. allowed .erase to (target p, (copy-in g p h .1, refl))))
+  step-accepted i w h =
+      by-test (λ d. accepted g d ≡ true) (same (bytesAt g f (source i w)) (bytesAt g f (target i w))) (λ _. flag-accepted i (nextFlag w))
+      (λ _. by-test (λ d. accepted g d ≡ true) (all 0xFF (bytesAt g f (target i w)))
+      (λ _. allowed .copy from to (source i w, (inside .0, refl)) (target i w, (inside .1, refl)) two)
+      (λ _. allowed .erase to (target i w, (inside .1, refl))))
     where
+      inside : Within g (source i w) × Within g (target i w)
+      inside = copy-in g i w h
+
       from : ℕ
-      from = offset g (source p)
+      from = offset g (source i w)
 
       to : ℕ
-      to = offset g (target p)
+      to = offset g (target i w)
 
       differ : Apart from (g .size) to (g .size) → from ≢ to
       differ (inl a) e = omega (arith, v .shape .size-min)
       differ (inr a) e = omega (arith, v .shape .size-min)
 
       two : from ≢ to
-      two = differ (offset-apart g (length f) v (source p) (target p) (copy-in g p h .0) (copy-in g p h .1) (copy-apart p))
+      two = differ (offset-apart g (length f) v (source i w) (target i w) (inside .0) (inside .1) (copy-apart i w))
 
   pub exchange-accepted : (p : ℕ) → DueAccepted g (exchangeOf g f p)
   unfolding exchangeOf
-  exchange-accepted p = by-test (DueAccepted g) (ltb p (3 * g .count)) (λ e. step-accepted p (ltb-true p (3 * g .count) e)) (λ _. tt)
+  exchange-accepted p =
+      by-test (DueAccepted g) (ltb p (3 * g .count))
+      (λ e. let l = ltb-true p (3 * g .count) e in step-accepted (p / 3) (flagOf p) (omega arith)) (λ _. tt)

@@ -22,9 +22,10 @@ use Rattle.flash.specs.declared.steps.Step.{Step}
 use Rattle.flash.proofs.Areas.{valid}
 use Rattle.flash.proofs.Closing.{sound-is}
 use Rattle.flash.proofs.Writes.{write-one}
-use Rattle.slots.specs.Correspondence.{flagFor, FlagsAt}
+use Rattle.slots.specs.Correspondence.{FlagsAt}
+use Rattle.slots.specs.Exchange.{nextFlag, nextFlagOf}
 use Rattle.slots.specs.FlagWritten.{Flagged, FlagWritten, NextFlag}
-use Rattle.slots.specs.Flags.{half, withHalf, flagAt, flag, flags, nextFlag, flagStep, flagStepOf, nextFlagOf}
+use Rattle.slots.specs.Flags.{new, swapping, backup, half, withHalf, flagAt, flag, flags, flagOf, flagStep, flagStepOf}
 use Rattle.slots.specs.Places.{trailerOf}
 use Rattle.slots.specs.Trailers.{state}
 use Rattle.slots.specs.declared.answers.Work.the-variants.{Due, Finished}
@@ -82,35 +83,35 @@ module _ (t : List ℕ) (i v : ℕ) (hz : 256 ≤ length t) (hi : i < 64) (hv : 
   abbrev old : ℕ
   old = getD t k 0
 
-  abbrev new : ℕ
-  new = bitAnd old (withHalf i v old)
+  abbrev and-old : ℕ
+  and-old = bitAnd old (withHalf i v old)
 
   in-trailer : k < length t
   unfolding flagAt
   in-trailer = omega arith
 
   -- the byte that holds sector j's flag
-  here : flag (set t k new) i ≡ bitAnd (flag t i) v
+  here : flag (set t k and-old) i ≡ bitAnd (flag t i) v
   unfolding flag
-  here = rw (length-set t k new, getD-set-same t k new 0 in-trailer) (half-same old v hv i)
+  here = rw (length-set t k and-old, getD-set-same t k and-old 0 in-trailer) (half-same old v hv i)
 
-  other : (j : ℕ) → j < 64 → j ≢ i → flag (set t k new) j ≡ flag t j
+  other : (j : ℕ) → j < 64 → j ≢ i → flag (set t k and-old) j ≡ flag t j
   unfolding flag flagAt
   other j hj n = go (ℕ-discrete (j / 2) (i / 2))
     where
-      go : Dec (j / 2 ≡ i / 2) → half j (getD (set t k new) (flagAt (length (set t k new)) j) 0) ≡ half j (getD t (flagAt (length t) j) 0)
+      go : Dec (j / 2 ≡ i / 2) → half j (getD (set t k and-old) (flagAt (length (set t k and-old)) j) 0) ≡ half j (getD t (flagAt (length t) j) 0)
       go (yes e) =
           let q : flagAt (length t) j ≡ k = ap (λ (y : ℕ). length t - 6 - y) e in
-          rw (length-set t k new, q, getD-set-same t k new 0 in-trailer) (half-other old v hv i j (omega arith))
-      go (no e) = rw (length-set t k new, getD-set-other t k (flagAt (length t) j) new 0 (omega arith))
+          rw (length-set t k and-old, q, getD-set-same t k and-old 0 in-trailer) (half-other old v hv i j (omega arith))
+      go (no e) = rw (length-set t k and-old, getD-set-other t k (flagAt (length t) j) and-old 0 (omega arith))
 
-  same-state : state (set t k new) ≡ state t
+  same-state : state (set t k and-old) ≡ state t
   unfolding flagAt
-  same-state = rw (length-set t k new, getD-set-other t k (length t - 5) new 0 (omega arith))
+  same-state = rw (length-set t k and-old, getD-set-other t k (length t - 5) and-old 0 (omega arith))
 
-  same-sound : sound (set t k new) ≡ sound t
+  same-sound : sound (set t k and-old) ≡ sound t
   unfolding flagAt
-  same-sound = rw (sound-is (set t k new), sound-is t, length-set t k new, drop-set-lt (length t - 4) t k new (omega arith))
+  same-sound = rw (sound-is (set t k and-old), sound-is t, length-set t k and-old, drop-set-lt (length t - 4) t k and-old (omega arith))
 
   pub flagged : Flagged t (write t k (withHalf i v old ∷ [])) i v
   flagged = rw (write-one t k (withHalf i v old) in-trailer)
@@ -119,44 +120,47 @@ module _ (t : List ℕ) (i v : ℕ) (hz : 256 ≤ length t) (hi : i < 64) (hv : 
 -- ---- the progress
 
 -- each flag is the next one's superset of bits
-next-clears : (s : ℕ) → s < 3 → bitAnd (flagFor s) (nextFlag s) ≡ nextFlag s
-unfolding flagFor nextFlag
-next-clears zero h = refl
-next-clears (suc zero) h = refl
-next-clears (suc (suc zero)) h = refl
-next-clears (suc (suc (suc s))) h = absurd (omega arith)
+next-clears : (p : ℕ) → bitAnd (flagOf p) (nextFlag (flagOf p)) ≡ nextFlag (flagOf p)
+unfolding flagOf nextFlag
+next-clears p = go (eqb (p % 3) 0) (eqb (p % 3) 1)
+  where
+    go : (a b : Bool) → (let v : ℕ = cond a new (cond b swapping backup) in bitAnd v (nextFlag v) ≡ nextFlag v)
+    go true b = refl
+    go false true = refl
+    go false false = refl
 
-next-small : (p : ℕ) → nextFlag p < 16
+next-small : (v : ℕ) → nextFlag v < 16
 unfolding nextFlag
-next-small p = go (eqb (p % 3) 0) (eqb (p % 3) 1)
+next-small v = go (eqb v new) (eqb v swapping)
   where
     go : (a b : Bool) → cond a 7 (cond b 3 0) < 16
     go true b = omega arith
     go false true = omega arith
     go false false = omega arith
 
-module _ (n p : ℕ) (t t′ : List ℕ) (h : p < 3 * n) (hn : n ≤ 64) (e : FlagsAt n p (flags n t)) (c : Flagged t t′ (p / 3) (nextFlag p)) where
+module _ (n p : ℕ) (t t′ : List ℕ) (h : p < 3 * n) (hn : n ≤ 64) (e : FlagsAt n p (flags n t)) (c : Flagged t t′ (p / 3) (nextFlag (flagOf p))) where
   abbrev i : ℕ
   i = p / 3
 
-  is-next : flag t′ i ≡ nextFlag p
-  unfolding nextFlag
+  abbrev next : ℕ
+  next = nextFlag (flagOf p)
+
+  is-next : flag t′ i ≡ next
   is-next =
       let s = one-to-one n .says p (flags n t) e .current h .1 in
-      let f : flag t i ≡ flagFor (p % 3) = sym (getD-flags n t i (omega arith)) ∙ s in
-      let m : p % 3 % 3 ≡ p % 3 = omega arith in
-      c .here ∙ rw f (rw m at (next-clears (p % 3) (omega arith)))
+      let f : flag t i ≡ flagOf p = sym (getD-flags n t i (omega arith)) ∙ s in
+      c .here ∙ rw f (next-clears p)
 
-  one-more : flags n t′ ≡ set (flags n t) i (nextFlag p)
+  one-more : flags n t′ ≡ set (flags n t) i next
   one-more =
-      ext-getD 0 (flags n t′) (set (flags n t) i (nextFlag p)) (length-flags n t′ ∙ sym (length-set (flags n t) i (nextFlag p) ∙ length-flags n t))
+      ext-getD 0 (flags n t′) (set (flags n t) i next) (length-flags n t′ ∙ sym (length-set (flags n t) i next ∙ length-flags n t))
       (λ j r. go j (omega (arith, length-flags n t′)) (ℕ-discrete j i))
     where
-      go : (j : ℕ) → j < n → Dec (j ≡ i) → getD (flags n t′) j 0 ≡ getD (set (flags n t) i (nextFlag p)) j 0
+      go : (j : ℕ) → j < n → Dec (j ≡ i) → getD (flags n t′) j 0 ≡ getD (set (flags n t) i next) j 0
       go j r (yes q) = rw q (getD-flags n t′ i (omega arith) ∙ is-next
-          ∙ sym (getD-set-same (flags n t) i (nextFlag p) 0 (omega (arith, length-flags n t))))
+          ∙ sym (getD-set-same (flags n t) i next 0 (omega (arith, length-flags n t))))
       go j r (no q) = getD-flags n t′ j r ∙ c .other j (omega arith) q
-          ∙ sym (getD-set-other (flags n t) i j (nextFlag p) 0 q ∙ getD-flags n t j r)
+          ∙ sym (getD-set-other (flags n t) i j next 0 q ∙ getD-flags n t j r)
 
   pub further : FlagsAt n (p + 1) (flags n t′)
   further =
@@ -170,7 +174,7 @@ module _ (g : Geometry) (f : List ℕ) (p : ℕ) where
   t = trailerOf g f Update
 
   abbrev due : Step
-  due = flagStepOf g f p
+  due = flagStepOf g f (p / 3) (nextFlag (flagOf p))
 
   is-due : (s : Step) → nextFlagOf g f p ≡ Due s → (p < 3 * g .count) × (s ≡ due)
   unfolding nextFlagOf
@@ -185,10 +189,10 @@ module _ (g : Geometry) (f : List ℕ) (p : ℕ) where
   written v h =
       let l : length t ≡ g .size = length-at g f v (Sector Update (g .count)) (omega arith) in
       let k : ℕ = flagAt (length t) (p / 3) in
-      let b = sectors g f v .stepped (Sector Update (g .count)) (omega arith) .one-byte k (withHalf (p / 3) (nextFlag p) (getD t k 0))
+      let b = sectors g f v .stepped (Sector Update (g .count)) (omega arith) .one-byte k (withHalf (p / 3) (nextFlag (flagOf p)) (getD t k 0))
       (omega (arith, v .shape .size-min)) in
-      let c : Flagged t (trailerOf g (applied g f due) Update) (p / 3) (nextFlag p) =
-      rw b (flagged t (p / 3) (nextFlag p) (omega (arith, v .shape .size-min)) (omega (arith, v .shape .count-max)) (next-small p)) in
+      let c : Flagged t (trailerOf g (applied g f due) Update) (p / 3) (nextFlag (flagOf p)) =
+      rw b (flagged t (p / 3) (nextFlag (flagOf p)) (omega (arith, v .shape .size-min)) (omega (arith, v .shape .count-max)) (next-small (flagOf p))) in
       record { keeps = c; further = λ e. further (g .count) p t (trailerOf g (applied g f due) Update) h (v .shape .count-max) e c }
 
 pub next-flag-written : NextFlag

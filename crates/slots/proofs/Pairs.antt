@@ -10,7 +10,7 @@ use lib.Dec.{eqb, ltb}
 use lib.ListN.{length, drop, getD}
 use Rattle.compare.specs.Compare.{all}
 use Rattle.compare.proofs.Tests.{and-left, and-right}
-use Rattle.slots.specs.Flags.{half, flagAt, flag, flags, pair, finishedIn}
+use Rattle.slots.specs.Flags.{half, flagAt, flag, flags, pair, lowestUnfinished}
 use Rattle.slots.proofs.Reading.{rest-go, zeros-go}
 
 pub record Pair (n : ℕ) (t : List ℕ) (i v : ℕ) : Type 0 where
@@ -52,7 +52,7 @@ module _ {n i v : ℕ} {t : List ℕ} (p : Pair n t i v) where
       let one = rest-go n i t (omega (arith, p .room)) (sym (p .first)) v inv refl in
       rw (two i) at (rest-go n (i + 1) t (p .room) (sym (p .second)) v one refl)
 
-  pub pair-zeros : v ≡ 0 → {P : ℕ} → i + finishedIn (drop i (flags n t)) ≡ P → i + 2 + finishedIn (drop (i + 2) (flags n t)) ≡ P
+  pub pair-zeros : v ≡ 0 → {P : ℕ} → i + lowestUnfinished (drop i (flags n t)) ≡ P → i + 2 + lowestUnfinished (drop (i + 2) (flags n t)) ≡ P
   pair-zeros z inv =
       let one = zeros-go n i t (omega (arith, p .room)) (sym (p .first)) inv z in
       rw (two i) at (zeros-go n (i + 1) t (p .room) (sym (p .second)) one z)

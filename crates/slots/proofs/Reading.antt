@@ -12,7 +12,7 @@ use lib.ListN.{length, drop, getD, drop-of-length-le}
 use lib.Seq.{drop-cons}
 use Rattle.compare.specs.Compare.{all}
 use Rattle.compare.proofs.Values.{all-stop, all-go, all-end}
-use Rattle.slots.specs.Flags.{flag, tab, flags, wellFormed, stage, progress, progressOf, finishedIn, progressAt, new, swapping, backup}
+use Rattle.slots.specs.Flags.{flag, tab, flags, wellFormed, stage, progress, progressOf, lowestUnfinished, progressAt, new, swapping, backup}
 use Rattle.slots.specs.declared.answers.Progress.the-variants.{At, Refused}
 
 length-tab : (n : ℕ) (h : ℕ → ℕ) → length (tab n h) ≡ n
@@ -37,30 +37,30 @@ module _ (n : ℕ) (t : List ℕ) where
 
 -- ---- the finished sectors
 
-module _ (i : ℕ) (fs : List ℕ) {P : ℕ} (inv : i + finishedIn (drop i fs) ≡ P) where
-  cons : i < length fs → i + cond (eqb (getD fs i 0) 0) (suc (finishedIn (drop (i + 1) fs))) 0 ≡ P
-  unfolding finishedIn
+module _ (i : ℕ) (fs : List ℕ) {P : ℕ} (inv : i + lowestUnfinished (drop i fs) ≡ P) where
+  cons : i < length fs → i + cond (eqb (getD fs i 0) 0) (suc (lowestUnfinished (drop (i + 1) fs))) 0 ≡ P
+  unfolding lowestUnfinished
   cons h = rw add-one (rw (drop-cons fs i 0 h) at inv)
 
-  pub finished-go : i < length fs → getD fs i 0 ≡ 0 → i + 1 + finishedIn (drop (i + 1) fs) ≡ P
+  pub finished-go : i < length fs → getD fs i 0 ≡ 0 → i + 1 + lowestUnfinished (drop (i + 1) fs) ≡ P
   finished-go h e = let k = rw (eq-eqb (getD fs i 0) 0 e) at (cons h) in omega arith
 
   pub finished-stop : i < length fs → getD fs i 0 ≢ 0 → i ≡ P
   finished-stop h n = let k = rw (ne-eqb (getD fs i 0) 0 n) at (cons h) in omega arith
 
   pub finished-end : length fs ≤ i → i ≡ P
-  unfolding finishedIn
+  unfolding lowestUnfinished
   finished-end h = let k = rw (drop-of-length-le fs h) at inv in omega arith
 
 -- ---- the progress by the finished sectors and the current one's flag
 
-pub all-finished : (fs : List ℕ) → finishedIn fs ≡ length fs → (wellFormed fs ≡ true) × (progress fs ≡ 3 * length fs)
-unfolding finishedIn wellFormed progress
+pub all-finished : (fs : List ℕ) → lowestUnfinished fs ≡ length fs → (wellFormed fs ≡ true) × (progress fs ≡ 3 * length fs)
+unfolding lowestUnfinished wellFormed progress
 all-finished [] e = (refl, refl)
 all-finished (x ∷ xs) e = go (eqb x 0) refl e (all-finished xs)
   where
-    go : (b : Bool) → eqb x 0 ≡ b → cond b (suc (finishedIn xs)) 0 ≡ suc (length xs)
-        → (finishedIn xs ≡ length xs → (wellFormed xs ≡ true) × (progress xs ≡ 3 * length xs))
+    go : (b : Bool) → eqb x 0 ≡ b → cond b (suc (lowestUnfinished xs)) 0 ≡ suc (length xs)
+        → (lowestUnfinished xs ≡ length xs → (wellFormed xs ≡ true) × (progress xs ≡ 3 * length xs))
         → (cond b (wellFormed xs) ((eqb x 7 || eqb x 3 || eqb x 15) && all 15 xs) ≡ true) × (cond b (3 + progress xs) (stage x) ≡ 3 * suc (length xs))
     go true t h ih = let k = ih (omega arith) in (k .0, omega (arith, k .1))
     go false t h ih = absurd (omega arith)
@@ -70,13 +70,13 @@ pub record Current (fs : List ℕ) (i : ℕ) : Type 0 where
   pub formed : wellFormed fs ≡ ((eqb (getD fs i 0) 7 || eqb (getD fs i 0) 3 || eqb (getD fs i 0) 15) && all 15 (drop (suc i) fs))
   pub reached : progress fs ≡ 3 * i + stage (getD fs i 0)
 
-pub current : (fs : List ℕ) → finishedIn fs < length fs → Current fs (finishedIn fs)
-unfolding finishedIn wellFormed progress
+pub current : (fs : List ℕ) → lowestUnfinished fs < length fs → Current fs (lowestUnfinished fs)
+unfolding lowestUnfinished wellFormed progress
 current [] h = absurd (omega arith)
 current (x ∷ xs) h = go (eqb x 0) refl h (current xs)
   where
-    go : (b : Bool) → eqb x 0 ≡ b → cond b (suc (finishedIn xs)) 0 < suc (length xs)
-        → (finishedIn xs < length xs → Current xs (finishedIn xs)) → Current (x ∷ xs) (cond b (suc (finishedIn xs)) 0)
+    go : (b : Bool) → eqb x 0 ≡ b → cond b (suc (lowestUnfinished xs)) 0 < suc (length xs)
+        → (lowestUnfinished xs < length xs → Current xs (lowestUnfinished xs)) → Current (x ∷ xs) (cond b (suc (lowestUnfinished xs)) 0)
     go true t h ih = let k = ih (omega arith) in record {
       formed = simp t (k .formed);
       reached = simp t (omega (arith, k .reached));
@@ -98,10 +98,10 @@ module _ (n i : ℕ) (t : List ℕ) {x : ℕ} (h : i < n) (e : x ≡ flag t i) w
   pub rest-go : (v : ℕ) {P : Bool} → all v (drop i (flags n t)) ≡ P → x ≡ v → all v (drop (i + 1) (flags n t)) ≡ P
   rest-go v inv d = all-go v i (flags n t) inv in-flags (is-flag ∙ d)
 
-  pub zeros-go : {P : ℕ} → i + finishedIn (drop i (flags n t)) ≡ P → x ≡ 0 → i + 1 + finishedIn (drop (i + 1) (flags n t)) ≡ P
+  pub zeros-go : {P : ℕ} → i + lowestUnfinished (drop i (flags n t)) ≡ P → x ≡ 0 → i + 1 + lowestUnfinished (drop (i + 1) (flags n t)) ≡ P
   zeros-go inv d = finished-go i (flags n t) inv in-flags (is-flag ∙ d)
 
-  pub zeros-stop : {P : ℕ} → i + finishedIn (drop i (flags n t)) ≡ P → x ≢ 0 → i ≡ P
+  pub zeros-stop : {P : ℕ} → i + lowestUnfinished (drop i (flags n t)) ≡ P → x ≢ 0 → i ≡ P
   zeros-stop inv d = finished-stop i (flags n t) inv in-flags (λ q. d (sym is-flag ∙ q))
 
 module _ (n i : ℕ) (t : List ℕ) (h : n ≤ i) where
@@ -111,12 +111,12 @@ module _ (n i : ℕ) (t : List ℕ) (h : n ≤ i) where
   pub rest-end : (v : ℕ) {P : Bool} → all v (drop i (flags n t)) ≡ P → true ≡ P
   rest-end v inv = all-end v i (flags n t) inv past
 
-  pub zeros-end : {P : ℕ} → i + finishedIn (drop i (flags n t)) ≡ P → i ≡ P
+  pub zeros-end : {P : ℕ} → i + lowestUnfinished (drop i (flags n t)) ≡ P → i ≡ P
   zeros-end inv = finished-end i (flags n t) inv past
 
 -- ---- the progress that the code answers
 
-pub progress-done : (n i : ℕ) (t : List ℕ) → n ≤ i → i ≤ n → i + finishedIn (drop i (flags n t)) ≡ finishedIn (flags n t)
+pub progress-done : (n i : ℕ) (t : List ℕ) → n ≤ i → i ≤ n → i + lowestUnfinished (drop i (flags n t)) ≡ lowestUnfinished (flags n t)
     → At (3 * n) ≡ progressOf (flags n t)
 unfolding progressOf
 progress-done n i t h k e =
@@ -125,11 +125,11 @@ progress-done n i t h k e =
     rw (f .0, f .1, length-flags n t)
 
 -- sector i is the first whose flag isn't 0
-pub progress-current : (n i : ℕ) (t : List ℕ) {x : ℕ} → i < n → x ≡ flag t i → i + finishedIn (drop i (flags n t)) ≡ finishedIn (flags n t)
+pub progress-current : (n i : ℕ) (t : List ℕ) {x : ℕ} → i < n → x ≡ flag t i → i + lowestUnfinished (drop i (flags n t)) ≡ lowestUnfinished (flags n t)
     → x ≢ 0 → progressAt i x (all new (drop (i + 1) (flags n t))) ≡ progressOf (flags n t)
 unfolding progressOf progressAt
 progress-current n i t {x} h d e z =
-    let first : i ≡ finishedIn (flags n t) = zeros-stop n i t h d e z in
+    let first : i ≡ lowestUnfinished (flags n t) = zeros-stop n i t h d e z in
     let c : Current (flags n t) i = rw (← first) at (current (flags n t) (rw (length-flags n t, ← first) h)) in
     rw (c .formed, c .reached, is-flag n i t h d, add-one i)
 

@@ -9,7 +9,7 @@ use lib.ListN.{length}
 use Rattle.compare.specs.Compare.{all}
 use Rattle.compare.proofs.Tests.{by-test}
 use Rattle.flash.specs.Bytes.{blank, write}
-use Rattle.flash.specs.Changes.{target, targetSize, Lies}
+use Rattle.flash.specs.Changes.{targetStart, targetSize, Lies}
 use Rattle.flash.specs.Geometry.{geometryCheck}
 use Rattle.flash.specs.Steps.{closing, accepted, applied}
 use Rattle.flash.specs.Valid.{Valid}
@@ -64,14 +64,14 @@ module _ (g : Geometry) (f : List ℕ) (s : Slot) (x : ℕ) (ok : geometryCheck 
   on = sectors g f v .stepped p (omega arith)
 
   -- a step within the trailer
-  step : (d : Step) (k : ℕ) → accepted g d ≡ true → Lies (target d) (targetSize g d) at z
+  step : (d : Step) (k : ℕ) → accepted g d ≡ true → Lies (targetStart d) (targetSize g d) at z
       → stepsLeft (trailerOf g (applied g f d) s) n x ≡ k → stepsLeft t n x ≡ suc k → Renewing g f s x d
   step d k a l after before =
       let c = step-passes g (length f) d ok a in
       record {
         accepted = c;
         less = ap suc after ∙ sym before;
-        others = λ q w e. sectors g f v .others p (omega arith) (applied g f d) (target d) (targetSize g d) (changes .only g f d c .whole) l q w e;
+        others = λ q w e. sectors g f v .others p (omega arith) (applied g f d) (targetStart d) (targetSize g d) (changes .only g f d c .whole) l q w e;
       }
 
   erase : accepted g (Erase at) ≡ true → stepsLeft t n x ≡ 3 → Renewing g f s x (Erase at)

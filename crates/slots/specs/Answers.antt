@@ -6,8 +6,8 @@ use lib.Dec.{eqb}
 use lib.ListN.{length}
 use Rattle.flash.specs.Geometry.{geometryCheck}
 use Rattle.flash.specs.declared.geometry.Geometry.{Geometry}
-use Rattle.slots.specs.Exchange.{exchangeOf}
-use Rattle.slots.specs.Flags.{flags, progressOf, nextFlagOf}
+use Rattle.slots.specs.Exchange.{exchangeOf, nextFlagOf}
+use Rattle.slots.specs.Flags.{flags, progressOf}
 use Rattle.slots.specs.Places.{trailerOf, imageOf}
 use Rattle.slots.specs.Trailers.{stateAt, soundWith, renewalOf}
 use Rattle.slots.specs.declared.answers.Progress.{Progress}

@@ -1,21 +1,17 @@
 -- Claim: well-formed flags of n sectors and the progress numbers from 0 to 3n correspond one to one.
-use Prim.Native.Nat.{ℕ, zero, suc, _-_, _*_, _/_, _%_, _≤_, _<_}
+use Prim.Native.Nat.{ℕ, zero, suc, _-_, _*_, _/_, _≤_, _<_}
 use mathlib.Core.Bool.{true, cond}
 use mathlib.Core.List.{List, [], _∷_}
 use mathlib.Core.Path.{_≡_}
 use lib.Dec.{eqb, ltb}
 use lib.ListN.{length, getD, replicate}
 use Rattle.compare.specs.Compare.{all}
-use Rattle.slots.specs.Flags.{new, swapping, backup, updated, wellFormed, progress, finishedIn}
-
--- the current sector's flag
-unfoldable pub flagFor : ℕ → ℕ
-flagFor s = cond (eqb s 0) new (cond (eqb s 1) swapping backup)
+use Rattle.slots.specs.Flags.{new, updated, wellFormed, lowestUnfinished, progress, flagOf}
 
 -- the flags of n sectors that a progress stands for
 unfoldable pub flagsFor : ℕ → ℕ → List ℕ
 flagsFor zero p = []
-flagsFor (suc n) p = cond (ltb p 3) (flagFor p ∷ replicate n new) (updated ∷ flagsFor n (p - 3))
+flagsFor (suc n) p = cond (ltb p 3) (flagOf p ∷ replicate n new) (updated ∷ flagsFor n (p - 3))
 
 -- fs are well-formed flags of n sectors, and stand for the progress p
 pub record FlagsAt (n p : ℕ) (fs : List ℕ) : Type 0 where
@@ -29,7 +25,7 @@ pub record Says (n p : ℕ) (fs : List ℕ) : Type 0 where
   pub only : fs ≡ flagsFor n p
   pub all-new : all new fs ≡ eqb p 0
   pub all-updated : all updated fs ≡ eqb p (3 * n)
-  pub current : p < 3 * n → (finishedIn fs ≡ p / 3) × (getD fs (p / 3) 0 ≡ flagFor (p % 3))
+  pub current : p < 3 * n → (lowestUnfinished fs ≡ p / 3) × (getD fs (p / 3) 0 ≡ flagOf p)
 
 pub record OneToOne (n : ℕ) : Type 0 where
   pub stands : (p : ℕ) → p ≤ 3 * n → FlagsAt n p (flagsFor n p)

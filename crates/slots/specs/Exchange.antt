@@ -1,6 +1,5 @@
--- Document 01, "The next step", decision 4: the exchange of a sector by three copies. The progress p names the lowest sector whose
--- flag isn't 0, p / 3, and by p % 3 its flag.
-use Prim.Native.Nat.{ℕ, _*_, _/_, _%_}
+-- Document 01, "The next step", decision 4: the exchange of sector i, the lowest whose flag v isn't 0.
+use Prim.Native.Nat.{ℕ, _*_, _/_}
 use mathlib.Core.Bool.{cond}
 use mathlib.Core.List.{List}
 use lib.Dec.{eqb, ltb}
@@ -8,7 +7,7 @@ use Rattle.compare.specs.Compare.{same, all}
 use Rattle.flash.specs.declared.geometry.Geometry.{Geometry}
 use Rattle.flash.specs.declared.steps.Step.{Step}
 use Rattle.flash.specs.declared.steps.Step.the-variants.{Erase, Copy}
-use Rattle.slots.specs.Flags.{flagStepOf}
+use Rattle.slots.specs.Flags.{new, swapping, backup, updated, flagOf, flagStepOf}
 use Rattle.slots.specs.Places.{offset, bytesAt}
 use Rattle.slots.specs.declared.answers.Work.{Work}
 use Rattle.slots.specs.declared.answers.Work.the-variants.{Due, Finished}
@@ -16,20 +15,30 @@ use Rattle.slots.specs.declared.places.Place.{Place}
 use Rattle.slots.specs.declared.places.Place.the-variants.{Sector, Swap}
 use Rattle.slots.specs.declared.places.Slot.the-variants.{Boot, Update}
 
--- with F from UPDATE to SWAP, with 7 from BOOT to UPDATE, with 3 from SWAP to BOOT
-unfoldable pub source : ℕ → Place
-source p = cond (eqb (p % 3) 0) (Sector Update (p / 3)) (cond (eqb (p % 3) 1) (Sector Boot (p / 3)) Swap)
+-- with F the first, with 7 the second, with 3 the third
+abbrev pub byFlag : {A : Type 0} → ℕ → A → A → A → A
+byFlag v a b c = cond (eqb v new) a (cond (eqb v swapping) b c)
 
-unfoldable pub target : ℕ → Place
-target p = cond (eqb (p % 3) 0) Swap (cond (eqb (p % 3) 1) (Sector Update (p / 3)) (Sector Boot (p / 3)))
+unfoldable pub source : ℕ → ℕ → Place
+source i v = byFlag v (Sector Update i) (Sector Boot i) Swap
 
--- source and target equal: the next flag; target all FF: Copy; else Erase
-unfoldable pub exchangeStep : Geometry → List ℕ → ℕ → Step
-exchangeStep g f p =
-    cond (same (bytesAt g f (source p)) (bytesAt g f (target p))) (flagStepOf g f p)
-    (cond (all 0xFF (bytesAt g f (target p))) (Copy (offset g (source p)) (offset g (target p)))
-    (Erase (offset g (target p))))
+unfoldable pub target : ℕ → ℕ → Place
+target i v = byFlag v Swap (Sector Update i) (Sector Boot i)
 
--- none is due where all flags are 0
+unfoldable pub nextFlag : ℕ → ℕ
+nextFlag v = byFlag v swapping backup updated
+
+-- source and target equal: Byte with the next flag; target all FF: Copy; else Erase
+unfoldable pub exchangeStep : Geometry → List ℕ → ℕ → ℕ → Step
+exchangeStep g f i v =
+    cond (same (bytesAt g f (source i v)) (bytesAt g f (target i v))) (flagStepOf g f i (nextFlag v))
+    (cond (all 0xFF (bytesAt g f (target i v))) (Copy (offset g (source i v)) (offset g (target i v)))
+    (Erase (offset g (target i v))))
+
+-- ---- at a progress p: none is due where all flags are 0
+
 unfoldable pub exchangeOf : Geometry → List ℕ → ℕ → Work
-exchangeOf g f p = cond (ltb p (3 * g .count)) (Due (exchangeStep g f p)) Finished
+exchangeOf g f p = cond (ltb p (3 * g .count)) (Due (exchangeStep g f (p / 3) (flagOf p))) Finished
+
+unfoldable pub nextFlagOf : Geometry → List ℕ → ℕ → Work
+nextFlagOf g f p = cond (ltb p (3 * g .count)) (Due (flagStepOf g f (p / 3) (nextFlag (flagOf p)))) Finished

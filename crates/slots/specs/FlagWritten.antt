@@ -12,7 +12,8 @@ use Rattle.flash.specs.Steps.{applied}
 use Rattle.flash.specs.declared.geometry.Geometry.{Geometry}
 use Rattle.flash.specs.declared.steps.Step.{Step}
 use Rattle.slots.specs.Correspondence.{FlagsAt}
-use Rattle.slots.specs.Flags.{flag, flags, nextFlag, nextFlagOf}
+use Rattle.slots.specs.Exchange.{nextFlag, nextFlagOf}
+use Rattle.slots.specs.Flags.{flag, flags, flagOf}
 use Rattle.slots.specs.Places.{trailerOf}
 use Rattle.slots.specs.Trailers.{state}
 use Rattle.slots.specs.declared.answers.Work.the-variants.{Due}
@@ -26,7 +27,7 @@ pub record Flagged (t t′ : List ℕ) (i v : ℕ) : Type 0 where
   pub same-sound : sound t′ ≡ sound t
 
 pub record FlagWritten (g : Geometry) (f : List ℕ) (p : ℕ) (s : Step) : Type 0 where
-  pub keeps : Flagged (trailerOf g f Update) (trailerOf g (applied g f s) Update) (p / 3) (nextFlag p)
+  pub keeps : Flagged (trailerOf g f Update) (trailerOf g (applied g f s) Update) (p / 3) (nextFlag (flagOf p))
   pub further : FlagsAt (g .count) p (flags (g .count) (trailerOf g f Update))
       → FlagsAt (g .count) (p + 1) (flags (g .count) (trailerOf g (applied g f s) Update))
 

@@ -12,8 +12,6 @@ use Rattle.flash.specs.declared.steps.Step.the-variants.{Byte}
 use Rattle.slots.specs.Places.{offset, trailerOf}
 use Rattle.slots.specs.declared.answers.Progress.{Progress}
 use Rattle.slots.specs.declared.answers.Progress.the-variants.{At, Refused}
-use Rattle.slots.specs.declared.answers.Work.{Work}
-use Rattle.slots.specs.declared.answers.Work.the-variants.{Due, Finished}
 use Rattle.slots.specs.declared.places.Place.the-variants.{Sector}
 use Rattle.slots.specs.declared.places.Slot.the-variants.{Update}
 
@@ -59,6 +57,11 @@ unfoldable pub wellFormed : List ℕ → Bool
 wellFormed [] = true
 wellFormed (x ∷ xs) = cond (eqb x updated) (wellFormed xs) ((eqb x swapping || eqb x backup || eqb x new) && all new xs)
 
+-- the lowest sector whose flag isn't 0
+unfoldable pub lowestUnfinished : List ℕ → ℕ
+lowestUnfinished [] = 0
+lowestUnfinished (x ∷ xs) = cond (eqb x updated) (suc (lowestUnfinished xs)) 0
+
 -- the progress: three for each finished sector, and in the current one 1 for swapping, 2 for backup
 unfoldable pub stage : ℕ → ℕ
 stage v = cond (eqb v swapping) 1 (cond (eqb v backup) 2 0)
@@ -70,25 +73,21 @@ progress (x ∷ xs) = cond (eqb x updated) (3 + progress xs) (stage x)
 unfoldable pub progressOf : List ℕ → Progress
 progressOf fs = cond (wellFormed fs) (At (progress fs)) (Refused 20)
 
--- the flag that follows a progress in its sector
-unfoldable pub nextFlag : ℕ → ℕ
-nextFlag p = cond (eqb (p % 3) 0) swapping (cond (eqb (p % 3) 1) backup updated)
+-- the current sector's flag at a progress p; the sector is p / 3
+unfoldable pub flagOf : ℕ → ℕ
+flagOf p = cond (eqb (p % 3) 0) new (cond (eqb (p % 3) 1) swapping backup)
 
--- the step that writes it in the trailer t at an offset, the other half of the byte as it is
-unfoldable pub flagStep : ℕ → List ℕ → ℕ → Step
-flagStep at t p =
-    let k : ℕ = flagAt (length t) (p / 3) in
-    Byte (at + k) (withHalf (p / 3) (nextFlag p) (getD t k 0))
+-- the step that writes sector i's flag as v in the trailer t at an offset, the other half of the byte as it is
+unfoldable pub flagStep : ℕ → List ℕ → ℕ → ℕ → Step
+flagStep at t i v =
+    let k : ℕ = flagAt (length t) i in
+    Byte (at + k) (withHalf i v (getD t k 0))
 
-unfoldable pub flagStepOf : Geometry → List ℕ → ℕ → Step
-flagStepOf g f p = flagStep (offset g (Sector Update (g .count))) (trailerOf g f Update) p
+unfoldable pub flagStepOf : Geometry → List ℕ → ℕ → ℕ → Step
+flagStepOf g f i v = flagStep (offset g (Sector Update (g .count))) (trailerOf g f Update) i v
 
--- none is due where all sectors are finished
-unfoldable pub nextFlagOf : Geometry → List ℕ → ℕ → Work
-nextFlagOf g f p = cond (ltb p (3 * g .count)) (Due (flagStepOf g f p)) Finished
-
--- ---- the code's own: a flag byte lies in the trailer; the finished sectors are those before the first whose flag isn't 0, and the
--- progress by that flag and whether the rest is new
+-- ---- the code's own: a flag byte lies in the trailer; the progress by the lowest sector whose flag isn't 0, that flag, and whether the
+-- rest is new
 
 pub record FlagPlace (len i at : ℕ) : Type 0 where
   pub is : at ≡ flagAt len i
@@ -97,10 +96,6 @@ pub record FlagPlace (len i at : ℕ) : Type 0 where
 -- one byte tells that of n sectors i and the next have the flag v
 unfoldable pub pair : ℕ → List ℕ → ℕ → ℕ → Bool
 pair n t i v = eqb (getD t (flagAt (length t) i) 0) (17 * v) && eqb (i % 2) 0 && ltb (i + 1) n
-
-unfoldable pub finishedIn : List ℕ → ℕ
-finishedIn [] = 0
-finishedIn (x ∷ xs) = cond (eqb x updated) (suc (finishedIn xs)) 0
 
 unfoldable pub progressAt : ℕ → ℕ → Bool → Progress
 progressAt i v rest = cond ((eqb v swapping || eqb v backup || eqb v new) && rest) (At (3 * i + stage v)) (Refused 20)

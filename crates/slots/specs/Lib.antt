@@ -7,4 +7,4 @@ pub mod Correspondence
 pub mod OnePlace
 pub mod FlagWritten
 pub mod Renewed
-pub mod Accepted
+pub mod AtPlaces

@@ -5,9 +5,8 @@ ghost use Prim.Native.Nat.{_+_, _*_, _^_, _≤_, _<_};
 ghost use lib.ListN.{length, drop};
 ghost use Rattle.compare.specs.Compare.{all};
 ghost use Rattle.flash.specs.Valid.{Valid};
-ghost use Rattle.slots.specs.Flags.{new, half, withHalf, FlagPlace, flag, pair, flags, nextFlag, progressAt, progressOf, flagStep, flagStepOf, nextFlagOf};
+ghost use Rattle.slots.specs.Flags.{new, half, withHalf, FlagPlace, flag, pair, flags, flagOf, progressAt, progressOf, flagStep, flagStepOf};
 use crate::answers::Progress;
-use crate::answers::Work;
 use crate::places::Place;
 use crate::places::Slot;
 use crate::places::offset;
@@ -114,43 +113,32 @@ pub(crate) fn progress(t: &[u8], n: usize) -> Progress
     Progress::At(3 * n)
 }
 
-// The flag that follows a progress in its sector.
-fn flag_after(reached: usize) -> u8
-    ensures { λ r. ⌜ (r ≡ nextFlag reached) × (r < 16) ⌝ }
+// The current sector's flag at a progress.
+pub(crate) fn flag_of(reached: usize) -> u8
+    ensures { λ r. ⌜ r ≡ flagOf reached ⌝ }
 {
     let stage = reached % 3;
     match stage {
-        0 => 7,
-        1 => 3,
-        _ => 0,
+        0 => 0xF,
+        1 => 7,
+        _ => 3,
     }
 }
 
-// The step that writes it in the trailer t at an offset.
-fn flag_step_at(t: &[u8], at: usize, reached: usize) -> Step
-    requires { ⌜ (256 ≤ length (now t)) × (reached < 192) × (at + length (now t) < 2 ^ 64) ⌝ }
-    ensures { λ r. ⌜ r ≡ flagStep at (now (t .entry)) reached ⌝ }
+// The step that writes sector i's flag as v in the trailer t at an offset.
+fn flag_step_at(t: &[u8], at: usize, i: usize, v: u8) -> Step
+    requires { ⌜ (256 ≤ length (now t)) × (i < 64) × (v < 16) × (at + length (now t) < 2 ^ 64) ⌝ }
+    ensures { λ r. ⌜ r ≡ flagStep at (now (t .entry)) i v ⌝ }
 {
-    let i = reached / 3;
     let k = flag_place(t.len(), i);
-    Step::Byte(at + k, with_half(i, flag_after(reached), t[k]))
+    Step::Byte(at + k, with_half(i, v, t[k]))
 }
 
-pub(crate) fn flag_step(flash: &[u8], g: Geometry, reached: usize) -> Step
-    requires { ⌜ Valid g (length (now flash)) × (reached < 3 * g .count) ⌝ }
-    ensures { λ r. ⌜ r ≡ flagStepOf g (now (flash .entry)) reached ⌝ }
+pub(crate) fn flag_step(flash: &[u8], g: Geometry, i: usize, v: u8) -> Step
+    requires { ⌜ Valid g (length (now flash)) × (i < g .count) × (v < 16) ⌝ }
+    ensures { λ r. ⌜ r ≡ flagStepOf g (now (flash .entry)) i v ⌝ }
 {
     let t = trailer(flash, g, Slot::Update);
     let at = offset(g, Place::Sector(Slot::Update, g.count));
-    flag_step_at(t, at, reached)
-}
-
-pub(crate) fn next_flag(flash: &[u8], g: Geometry, reached: usize) -> Work
-    requires { ⌜ Valid g (length (now flash)) ⌝ }
-    ensures { λ r. ⌜ r ≡ nextFlagOf g (now (flash .entry)) reached ⌝ }
-{
-    if 3 * g.count <= reached {
-        return Work::Finished;
-    }
-    Work::Due(flag_step(flash, g, reached))
+    flag_step_at(t, at, i, v)
 }

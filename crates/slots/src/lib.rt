@@ -1,7 +1,7 @@
 // What the loader reads of a flash: its slots' images and trailers, and the flags in UPDATE's trailer.
 // Every public function is total: the geometry's numbers 1 to 4 first, then what document 01 says.
 mod answers;
-mod copies;
+mod exchanges;
 mod flags;
 mod places;
 mod trailers;
@@ -76,7 +76,7 @@ pub fn next_flag(flash: &[u8], g: Geometry, reached: usize) -> Work
     if number != 0 {
         return Work::Refused(number);
     }
-    flags::next_flag(flash, g, reached)
+    exchanges::next_flag(flash, g, reached)
 }
 
 // The next step of the exchange at a progress: a copy with its erase before and its flag after, or
@@ -88,5 +88,5 @@ pub fn exchange(flash: &[u8], g: Geometry, reached: usize) -> Work
     if number != 0 {
         return Work::Refused(number);
     }
-    copies::exchange(flash, g, reached)
+    exchanges::exchange(flash, g, reached)
 }

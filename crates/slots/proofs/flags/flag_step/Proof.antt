@@ -19,6 +19,7 @@ flag-step-at-requires c κs =
     let size = t .trailer .ensures .size in (
       omega (arith, size, s .pre .0 .shape .size-min),
       omega (arith, s .pre .1, s .pre .0 .shape .count-max),
+      s .pre .2,
       omega (arith, size, c .offset .ensures, offset-in (s .args .g) _ (s .pre .0) (Sector Update (s .args .g .count)) (omega arith)),
     )
 

@@ -3,14 +3,14 @@ use mathlib.Core.Path.{_≡_, refl, _∙_}
 use native.Mathlib.Omega.{arith}
 use borrow.Author.Needs.{needs}
 use lib.ListN.{drop}
-use Rattle.slots.specs.Flags.{flags, finishedIn}
+use Rattle.slots.specs.Flags.{flags, lowestUnfinished}
 use Rattle.slots.proofs.Reading.{zeros-go, progress-done, progress-current}
 use Rattle.slots.proofs.Pairs.{Pair, is-pair, pair-zeros}
 use Rattle.slots.proofs.flags.progress.Statement.{statement}
 use Rattle.slots.proofs.flags.progress.Tie as tie
 
 abbrev Inv-loop : tie.InvT-loop
-Inv-loop t n i₀ i = (i ≤ n) × (i + finishedIn (drop i (flags n t)) ≡ finishedIn (flags n t))
+Inv-loop t n i₀ i = (i ≤ n) × (i + lowestUnfinished (drop i (flags n t)) ≡ lowestUnfinished (flags n t))
 
 abbrev μ-loop : tie.MeasureT-loop
 μ-loop t n i₀ i = n - i

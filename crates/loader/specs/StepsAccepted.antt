@@ -13,11 +13,11 @@ use Rattle.loader.specs.Decisions.{nextStep}
 use Rattle.loader.specs.Requests.{triggerAnswer, confirmAnswer}
 use Rattle.loader.specs.declared.answers.Answer.the-variants as A
 
-pub record Accepted (g : Geometry) (f : List ℕ) (s : Step) : Type 0 where
+pub record StepAccepted (g : Geometry) (f : List ℕ) (s : Step) : Type 0 where
   pub step : (k : Checks) (a b : Bool) → nextStep k g f a b ≡ A.Step s → stepCheck g (length f) s ≡ 0
   pub last : (k : Checks) (a b : Bool) → nextStep k g f a b ≡ A.LastStep s → stepCheck g (length f) s ≡ 0
   pub trigger : triggerAnswer g f ≡ Due s → stepCheck g (length f) s ≡ 0
   pub confirm : confirmAnswer g f ≡ Due s → stepCheck g (length f) s ≡ 0
 
 abbrev pub StepsAccepted : Type 0
-StepsAccepted = (g : Geometry) (f : List ℕ) (s : Step) → Accepted g f s
+StepsAccepted = (g : Geometry) (f : List ℕ) (s : Step) → StepAccepted g f s

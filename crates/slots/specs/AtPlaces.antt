@@ -20,7 +20,7 @@ Starts g at = (p : Place) × (Within g p × (at ≡ offset g p))
 abbrev pub IntoTrailer : Geometry → ℕ → ℕ → Type 0
 IntoTrailer g k at = (s : Slot) × (at ≡ offset g (Sector s (g .count)) + k)
 
-pub record Accepted (g : Geometry) : Type 0 where
+pub record PlacesAccepted (g : Geometry) : Type 0 where
   pub erase : (at : ℕ) → Starts g at → accepted g (Erase at) ≡ true
   pub erase-only : (at : ℕ) → accepted g (Erase at) ≡ true → Starts g at
   pub copy : (from to : ℕ) → Starts g from → Starts g to → from ≢ to → accepted g (Copy from to) ≡ true
@@ -31,4 +31,4 @@ pub record Accepted (g : Geometry) : Type 0 where
   pub mark-only : (at : ℕ) → accepted g (Mark at) ≡ true → IntoTrailer g (g .size - 4) at
 
 abbrev pub AtPlaces : Type 0
-AtPlaces = (g : Geometry) (len : ℕ) → geometryCheck g len ≡ 0 → Accepted g
+AtPlaces = (g : Geometry) (len : ℕ) → geometryCheck g len ≡ 0 → PlacesAccepted g

@@ -6,15 +6,15 @@ use Rattle.slots.specs.Exchange.{exchangeStep}
 use Rattle.slots.specs.Places.{offset, Within}
 use Rattle.slots.proofs.Exchanging.{copy-in}
 use Rattle.slots.proofs.Sectors.{offset-in}
-use Rattle.slots.proofs.copies.exchange_step.Statement.{statement}
-use Rattle.slots.proofs.copies.exchange_step.Tie as tie
+use Rattle.slots.proofs.exchanges.exchange_step.Statement.{statement}
+use Rattle.slots.proofs.exchanges.exchange_step.Tie as tie
 
 -- both places are sectors of the geometry
 from-in : (c : tie.After-target-of) → Within (c .before .before .before .args .g) (c .before .source-of .result)
-from-in c = let a = c .before .before .before in rw (c .before .source-of .ensures) (copy-in (a .args .g) (a .args .reached) (a .pre .1) .0)
+from-in c = let a = c .before .before .before in rw (c .before .source-of .ensures) (copy-in (a .args .g) (a .args .i) (a .args .v) (a .pre .1) .0)
 
 to-in : (c : tie.After-target-of) → Within (c .before .before .before .args .g) (c .target-of .result)
-to-in c = let a = c .before .before .before in rw (c .target-of .ensures) (copy-in (a .args .g) (a .args .reached) (a .pre .1) .1)
+to-in c = let a = c .before .before .before in rw (c .target-of .ensures) (copy-in (a .args .g) (a .args .i) (a .args .v) (a .pre .1) .1)
 
 from-fits : (c : tie.After-target-of) → offset (c .before .before .before .args .g) (c .before .source-of .result) < 2 ^ 64
 from-fits c =
@@ -35,7 +35,7 @@ sector-requires-2 c κs = (c .before .before .before .before .pre .0, to-in (c .
 returns : tie.Need-returns
 unfolding exchangeStep
 returns c =
-    let e = c .before .before in
+    let e = c .before .before .before in
     let t = e .before .before .before in
     rw (
       ← t .before .source-of .ensures,
@@ -43,7 +43,8 @@ returns c =
       ← e .before .before .sector .ensures .is,
       ← e .before .sector2 .ensures .is,
       ← e .same .ensures,
-      c .before .if1 .taken,
+      c .before .before .if1 .taken,
+      ← c .before .flag-after .ensures .0,
       ← c .flag-step .ensures,
     )
 
@@ -96,4 +97,4 @@ returns-3 c =
 pub exchange-step-spec : {M : Type 1} → statement M
 exchange-step-spec =
     tie.close (tie.spec (λ c κs. search needs) (λ c κs. search needs) sector-requires sector-requires-2 (λ c κs. search needs) (λ c κs. search needs)
-    returns (λ c κs. search needs) offset-requires offset-requires-2 returns-2 offset-requires-3 returns-3)
+    (λ c κs. search needs) returns (λ c κs. search needs) offset-requires offset-requires-2 returns-2 offset-requires-3 returns-3)

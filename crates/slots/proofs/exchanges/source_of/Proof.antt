@@ -1,8 +1,7 @@
-use Prim.Native.Nat.{_%_}
 use borrow.Author.Tests.{ne-eqb}
 use Rattle.slots.specs.Exchange.{source}
-use Rattle.slots.proofs.copies.source_of.Statement.{statement}
-use Rattle.slots.proofs.copies.source_of.Tie as tie
+use Rattle.slots.proofs.exchanges.source_of.Statement.{statement}
+use Rattle.slots.proofs.exchanges.source_of.Tie as tie
 
 returns : tie.Need-returns
 unfolding source
@@ -15,8 +14,8 @@ returns-2 c = rw (c .match .keys2)
 returns-3 : tie.Need-returns-3
 unfolding source
 returns-3 c =
-    let s = c .before .args .reached % 3 in
-    rw (ne-eqb s 0 (c .match .rest .0 .1), ne-eqb s 1 (c .match .rest .1))
+    let v = c .before .args .v in
+    rw (ne-eqb v 15 (c .match .rest .0 .1), ne-eqb v 7 (c .match .rest .1))
 
 pub source-of-spec : {M : Type 1} → statement M
 source-of-spec =
