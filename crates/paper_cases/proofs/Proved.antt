@@ -3,20 +3,24 @@
 use mathlib.Core.List.{List, [], _∷_, map, List·Memᴰ, List·Memᴰ·cases-cons, List·Memᴰ·not-nil}
 use mathlib.Core.Logic.{⊎-elim}
 use mathlib.Core.Path.{_≡_, refl}
-use Rattle.compare.specs.Compare.{all}
+use Rattle.compare.specs.Compare.{same, all}
+use Rattle.flash.specs.Cuts.{sound}
 use Rattle.flash.specs.Geometry.{placed, disjoint, geometryCheck}
+use Rattle.flash.specs.Steps.{closing}
 use Rattle.header.specs.Checks.{tagsCheck, headerCheck}
 use Rattle.header.specs.Lookup.{lookup}
 use Rattle.header.specs.Numbers.{numberAt}
 use Rattle.header.specs.Walk.{stepAt, walkIn, walk}
-use Rattle.slots.specs.Answers.{progressAnswer}
-use Rattle.slots.specs.Flags.{half, flagAt, flag, tab, flags, wellFormed, stage, progress, progressOf}
-use Rattle.slots.specs.Places.{offset, bytesAt}
+use Rattle.slots.specs.Flags.{half, flagAt, flag, tab, flags, wellFormed, lowestUnfinished}
+use Rattle.slots.specs.Places.{offset, bytesAt, imageOf}
+use Rattle.slots.specs.Trailers.{soundWith}
+use Rattle.loader.specs.Decisions.{stagedDecision, decision, nextStep}
 use Rattle.paper_cases.specs.Cases.{Case, cases, answerTo, Proved}
 
-answered : map (λ (c : Case). answerTo (c .input)) cases ≡ map (λ (c : Case). c .answer) cases
+answered : map (λ (c : Case). answerTo (c .input)) cases ≡ map (λ (c : Case). c .says) cases
 unfolding numberAt stepAt walkIn walk lookup tagsCheck headerCheck
-    all placed disjoint geometryCheck offset bytesAt half flagAt flag tab flags wellFormed stage progress progressOf progressAnswer
+    same all placed disjoint geometryCheck closing sound offset bytesAt imageOf half flagAt flag tab flags wellFormed lowestUnfinished
+    soundWith stagedDecision decision nextStep
 answered = refl
 
 -- where two maps of a list are equal, the functions are at each of its elements
@@ -26,4 +30,4 @@ agree f g (y ∷ l) e x m =
     ⊎-elim (λ q. let h : f y ≡ g y = cc in cc) (λ r. agree f g l (cc) x r) (List·Memᴰ·cases-cons m)
 
 pub proved : Proved
-proved = agree (λ (c : Case). answerTo (c .input)) (λ (c : Case). c .answer) cases answered
+proved = agree (λ (c : Case). answerTo (c .input)) (λ (c : Case). c .says) cases answered

@@ -1,92 +1,130 @@
 -- Document 01, "Bench cases": the starred ones, all of them, one list under one claim (proofs/Proved.antt).
 use Prim.Native.Nat.{ℕ, _/_, _%_}
+use mathlib.Core.Bool.{true, cond}
 use mathlib.Core.List.{List, [], _∷_, _++_, List·Memᴰ}
 use mathlib.Core.Path.{_≡_}
-use lib.ListN.{replicate}
+use lib.Dec.{eqb}
+use lib.ListN.{getD, replicate}
 use lib.Seq.{sets}
+use Rattle.compare.specs.Compare.{all}
 use Rattle.flash.specs.declared.geometry.Geometry.{Geometry}
 use Rattle.header.specs.Checks.{headerCheck}
 use Rattle.header.specs.Lookup.{lookup}
 use Rattle.header.specs.Numbers.{numberAt}
 use Rattle.header.specs.declared.tags.Lookup.{Lookup}
-use Rattle.header.specs.declared.tags.Lookup.the-variants.{Found, Refused}
-use Rattle.slots.specs.Answers.{progressAnswer}
-use Rattle.slots.specs.declared.answers.Progress.{Progress}
-use Rattle.slots.specs.declared.answers.Progress.the-variants.{At}
-use Rattle.slots.specs.declared.answers.Progress.the-variants as P
+use Rattle.header.specs.declared.tags.Lookup.the-variants as L
+use Rattle.slots.specs.Flags.{new, swapping, updated, flags, lowestUnfinished}
+use Rattle.slots.specs.Places.{trailerOf, imageOf}
+use Rattle.slots.specs.declared.places.Slot.the-variants.{Boot, Update}
+use Rattle.loader.specs.Checks.{imageChecks}
+use Rattle.loader.specs.Decisions.{nextStep}
+use Rattle.loader.specs.declared.answers.Answer.{Answer}
+use Rattle.loader.specs.declared.answers.Answer.the-variants as A
 
 -- an input, and what is asked of it
 pub data Input : Type 0 where
-  -- the flag byte of geometry G: the progress it stands for
-  flags : (byte : ℕ) → Input
+  -- the flag byte of a flash whose UPDATE is sound with 70: what the next step goes by
+  flagByte : (byte : ℕ) → Input
   -- bytes at a place of a header that is FF elsewhere: lookup of a type
   tags : (place : ℕ) (bytes : List ℕ) (kind : ℕ) → Input
-  -- a size in an image that fills the image sectors of geometry G: the header's checks
+  -- the size in the header of an image in BOOT: the header's checks
   size : ℕ → Input
+
+-- what a case says, in the paper's words
+pub data Said : Type 0 where
+  allNew : Said
+  allUpdated : Said
+  -- the lowest sector whose flag isn't 0, and its flag
+  sector : (i flag : ℕ) → Said
+  -- a tag's content: its place and length, and its value as a number
+  content : (place len value : ℕ) → Said
+  fits : Said
+  refused : (number : ℕ) → Said
 
 pub record Case : Type 0 where
   pub input : Input
-  pub answer : List ℕ
+  pub says : Said
 
--- 1792 bytes of FF but for the flag byte, under geometry G
+-- geometry G, with a flash of 1792 bytes: FF but for some bytes at a place
 abbrev pub G : Geometry
 G = record { size = 256; count = 2; boot = 0; update = 768; swap = 1536 }
 
-abbrev pub flashWith : ℕ → List ℕ
-flashWith byte = sets (replicate 1792 0xFF) 1530 (byte ∷ [])
+abbrev pub flashWith : ℕ → List ℕ → List ℕ
+flashWith place bytes = sets (replicate 1792 0xFF) place bytes
 
--- the first sector that is not finished (2 where both are) and how far it has come: 0 new, 1 swapping, 2 backup; or the refusal's
--- number
-abbrev pub reached : Progress → List ℕ
-reached (At p) = p / 3 ∷ p % 3 ∷ []
-reached (P.Refused n) = n ∷ []
+-- ---- flags
+
+-- the flag byte at 1530, the state and the closing bytes of UPDATE
+abbrev pub stagedWith : ℕ → List ℕ
+stagedWith byte = flashWith 1530 (byte ∷ 0x70 ∷ 0x42 ∷ 0x4F ∷ 0x4F ∷ 0x54 ∷ [])
+
+-- what is said, or the loader's refusal
+abbrev pub orRefused : Said → Answer → Said
+orRefused s (A.Step d) = s
+orRefused s (A.LastStep d) = s
+orRefused s (A.Boot n) = s
+orRefused s (A.Refused n) = refused n
+
+-- all F, all 0, or by the next step the lowest sector whose flag isn't 0
+abbrev pub flagsSay : List ℕ → Said
+flagsSay f =
+    let fs : List ℕ = flags (G .count) (trailerOf G f Update) in
+    let i : ℕ = lowestUnfinished fs in
+    cond (all new fs) allNew
+    (cond (all updated fs) allUpdated
+    (orRefused (sector i (getD fs i 0)) (nextStep imageChecks G f true true)))
+
+-- ---- headers
 
 abbrev pub headerWith : ℕ → List ℕ → List ℕ
-headerWith p bytes = sets (replicate 256 0xFF) p bytes
+headerWith place bytes = sets (replicate 256 0xFF) place bytes
 
 abbrev pub tag : ℕ → ℕ → List ℕ → List ℕ
-tag k n content = k ∷ 0 ∷ n ∷ 0 ∷ content
+tag k n bytes = k ∷ 0 ∷ n ∷ 0 ∷ bytes
 
--- 512 bytes with the mark, the size n and the five mandatory tags
-abbrev pub imageOf : ℕ → List ℕ
-imageOf n =
-    sets (replicate 512 0xFF) 0
-    ((0x57 ∷ 0x4F ∷ 0x4C ∷ 0x46 ∷ n % 256 ∷ n / 256 ∷ 0 ∷ 0 ∷ [])
+abbrev pub lookupSays : List ℕ → Lookup → Said
+lookupSays h (L.Found t) = content (t .at) (t .len) (numberAt (t .len) h (t .at))
+lookupSays h (L.Refused n) = refused n
+
+-- the mark, the size n and the five mandatory tags
+abbrev pub headerOf : ℕ → List ℕ
+headerOf n =
+    (0x57 ∷ 0x4F ∷ 0x4C ∷ 0x46 ∷ n % 256 ∷ n / 256 ∷ 0 ∷ 0 ∷ [])
     ++ (tag 0x01 4 (replicate 4 1)
     ++ (tag 0x02 8 (replicate 8 0)
     ++ (tag 0x30 2 (replicate 2 0)
     ++ (tag 0x03 32 (replicate 32 0)
-    ++ tag 0x20 64 (replicate 64 0))))))
+    ++ tag 0x20 64 (replicate 64 0)))))
 
--- of a tag that is found: its content's place and length, and the four bytes there as a number; or the refusal's number
-abbrev pub found : List ℕ → Lookup → List ℕ
-found h (Found t) = t .at ∷ t .len ∷ numberAt 4 h (t .at) ∷ []
-found h (Refused n) = n ∷ []
+abbrev pub checkSays : ℕ → Said
+checkSays n = cond (eqb n 0) fits (refused n)
 
-abbrev pub answerTo : Input → List ℕ
-answerTo (flags byte) = reached (progressAnswer G (flashWith byte))
-answerTo (tags p bytes k) = found (headerWith p bytes) (lookup (headerWith p bytes) k)
-answerTo (size n) = headerCheck (imageOf n) ∷ []
+-- ---- the cases
 
-abbrev pub case : Input → List ℕ → Case
-case i a = record { input = i; answer = a }
+abbrev pub answerTo : Input → Said
+answerTo (flagByte byte) = flagsSay (stagedWith byte)
+answerTo (tags p bytes k) = lookupSays (headerWith p bytes) (lookup (headerWith p bytes) k)
+answerTo (size n) = checkSays (headerCheck (imageOf G (flashWith 0 (headerOf n)) Boot))
+
+abbrev pub case : Input → Said → Case
+case i a = record { input = i; says = a }
 
 abbrev pub cases : List Case
 cases =
-    case (flags 0xFF) (0 ∷ 0 ∷ [])
-    ∷ case (flags 0x00) (2 ∷ 0 ∷ [])
-    ∷ case (flags 0xF0) (1 ∷ 0 ∷ [])
-    ∷ case (flags 0xF7) (0 ∷ 1 ∷ [])
-    ∷ case (flags 0x3F) (20 ∷ [])
-    ∷ case (flags 0xF5) (20 ∷ [])
-    ∷ case (tags 8 (0xFF ∷ 0xFF ∷ 0x01 ∷ 0x00 ∷ 0x04 ∷ 0x00 ∷ 0x05 ∷ 0x00 ∷ 0x00 ∷ 0x00 ∷ []) 0x01) (14 ∷ 4 ∷ 5 ∷ [])
-    ∷ case (tags 252 (tag 0x34 0 []) 0x34) (256 ∷ 0 ∷ 0 ∷ [])
-    ∷ case (tags 252 (tag 0x34 1 []) 0x34) (13 ∷ [])
-    ∷ case (size 256) (0 ∷ [])
-    ∷ case (size 257) (12 ∷ [])
-    ∷ case (size 0) (12 ∷ [])
+    case (flagByte 0xFF) allNew
+    ∷ case (flagByte 0x00) allUpdated
+    ∷ case (flagByte 0xF0) (sector 1 new)
+    ∷ case (flagByte 0xF7) (sector 0 swapping)
+    ∷ case (flagByte 0x3F) (refused 20)
+    ∷ case (flagByte 0xF5) (refused 20)
+    ∷ case (tags 8 (0xFF ∷ 0xFF ∷ 0x01 ∷ 0x00 ∷ 0x04 ∷ 0x00 ∷ 0x05 ∷ 0x00 ∷ 0x00 ∷ 0x00 ∷ []) 0x01) (content 14 4 5)
+    ∷ case (tags 252 (tag 0x34 0 []) 0x34) (content 256 0 0)
+    ∷ case (tags 252 (tag 0x34 1 []) 0x34) (refused 13)
+    ∷ case (size 256) fits
+    ∷ case (size 257) (refused 12)
+    ∷ case (size 0) (refused 12)
     ∷ []
 
 -- the claim: every case has its answer
 abbrev pub Proved : Type 0
-Proved = (c : Case) → List·Memᴰ c cases → answerTo (c .input) ≡ c .answer
+Proved = (c : Case) → List·Memᴰ c cases → answerTo (c .input) ≡ c .says

@@ -15,7 +15,7 @@ use Rattle.slots.specs.declared.places.Place.{Place}
 use Rattle.slots.specs.declared.places.Place.the-variants.{Sector, Swap}
 use Rattle.slots.specs.declared.places.Slot.the-variants.{Boot, Update}
 
--- with F the first, with 7 the second, with 3 the third
+-- one of three: with F, with 7, with 3
 abbrev pub byFlag : {A : Type 0} → ℕ → A → A → A → A
 byFlag v a b c = cond (eqb v new) a (cond (eqb v swapping) b c)
 
@@ -35,7 +35,8 @@ exchangeStep g f i v =
     (cond (all 0xFF (bytesAt g f (target i v))) (Copy (offset g (source i v)) (offset g (target i v)))
     (Erase (offset g (target i v))))
 
--- ---- at a progress p: none is due where all flags are 0
+-- ---- at a progress p, as the code goes: sector p / 3 is the lowest whose flag isn't 0, and flagOf p its flag (`current` in
+-- Correspondence); none is due where all flags are 0
 
 unfoldable pub exchangeOf : Geometry → List ℕ → ℕ → Work
 exchangeOf g f p = cond (ltb p (3 * g .count)) (Due (exchangeStep g f (p / 3) (flagOf p))) Finished
