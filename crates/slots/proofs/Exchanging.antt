@@ -17,7 +17,7 @@ use Rattle.slots.specs.declared.places.Place.{Place}
 use Rattle.slots.specs.declared.places.Place.the-variants.{Sector, Swap}
 use Rattle.slots.specs.declared.places.Slot.the-variants.{Boot, Update}
 
--- by the progress p, as the code goes
+-- at a progress p
 abbrev pub sourceAt : ℕ → Place
 sourceAt p = source (p / 3) (flagOf p)
 

@@ -6,7 +6,7 @@ use lib.ListN.{drop}
 use Rattle.compare.specs.Compare.{all}
 use Rattle.slots.specs.Flags.{flags}
 use Rattle.slots.proofs.Reading.{rest-stop, rest-go, rest-end}
-use Rattle.slots.proofs.Pairs.{Pair, is-pair, pair-rest}
+use Rattle.slots.proofs.Pairs.{is-pair, pair-rest}
 use Rattle.slots.proofs.flags.is_rest.Statement.{statement}
 use Rattle.slots.proofs.flags.is_rest.Tie as tie
 

@@ -5,7 +5,7 @@ use borrow.Author.Needs.{needs}
 use lib.ListN.{drop}
 use Rattle.slots.specs.Flags.{flags, lowestUnfinished}
 use Rattle.slots.proofs.Reading.{zeros-go, progress-done, progress-current}
-use Rattle.slots.proofs.Pairs.{Pair, is-pair, pair-zeros}
+use Rattle.slots.proofs.Pairs.{is-pair, pair-zeros}
 use Rattle.slots.proofs.flags.progress.Statement.{statement}
 use Rattle.slots.proofs.flags.progress.Tie as tie
 
