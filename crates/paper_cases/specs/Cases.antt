@@ -1,6 +1,6 @@
 -- Document 01, "Bench cases": the starred ones, all of them, one list under one claim (proofs/Proved.antt).
 use Prim.Native.Nat.{ℕ, _/_, _%_}
-use mathlib.Core.Bool.{true, cond}
+use mathlib.Core.Bool.{true, cond, _&&_}
 use mathlib.Core.List.{List, [], _∷_, _++_, List·Memᴰ}
 use mathlib.Core.Path.{_≡_}
 use lib.Dec.{eqb}
@@ -18,6 +18,7 @@ use Rattle.slots.specs.Places.{trailerOf, imageOf}
 use Rattle.slots.specs.declared.places.Slot.the-variants.{Boot, Update}
 use Rattle.loader.specs.Checks.{imageChecks}
 use Rattle.loader.specs.Decisions.{nextStep}
+use Rattle.loader.specs.States.{staged}
 use Rattle.loader.specs.declared.answers.Answer.{Answer}
 use Rattle.loader.specs.declared.answers.Answer.the-variants as A
 
@@ -65,13 +66,13 @@ orRefused s (A.LastStep d) = s
 orRefused s (A.Boot n) = s
 orRefused s (A.Refused n) = refused n
 
--- all F, all 0, or by the next step the lowest sector whose flag isn't 0
+-- UPDATE is sound with 70 and all flags are F, or all 0; else by the next step the lowest sector whose flag isn't 0
 abbrev pub flagsSay : List ℕ → Said
 flagsSay f =
     let fs : List ℕ = flags (G .count) (trailerOf G f Update) in
     let i : ℕ = lowestUnfinished fs in
-    cond (all new fs) allNew
-    (cond (all updated fs) allUpdated
+    cond (staged G f && all new fs) allNew
+    (cond (staged G f && all updated fs) allUpdated
     (orRefused (sector i (getD fs i 0)) (nextStep imageChecks G f true true)))
 
 -- ---- headers
