@@ -8,9 +8,9 @@ use mathlib.Core.Path.{_≡_, refl, sym, ap, subst, _∙_}
 use native.Mathlib.Omega.{arith}
 use lib.Dec.{eqb}
 use borrow.Author.Tests.{eqb-true}
-use Rattle.header.specs.Lookup.{firstIn, lookup, ofKind, Agrees}
+use Rattle.header.specs.Lookup.{firstIn, lookup, ofKind, LookupsAgree}
 use Rattle.header.specs.Numbers.{byteAt, numberAt}
-use Rattle.header.specs.Walk.{Walk, walk, Stays}
+use Rattle.header.specs.Walk.{Walk, walk, WalksStay}
 use Rattle.header.specs.declared.tags.Lookup.the-variants.{Found, Refused}
 use Rattle.header.specs.declared.tags.Lookup.{Lookup}
 use Rattle.header.specs.declared.tags.Tag.{Tag}
@@ -26,7 +26,7 @@ each-good s e p t =
     (λ q u g ih m. ⊎-elim (λ same. subst (Good s e q) (sym same) g) (λ n. later (omega arith) (ih n)) (List·Memᴰ·cases-cons m))
     p
 
-pub stays : (s : List ℕ) (e p : ℕ) → Stays s e p
+pub stays : WalksStay
 stays s e p =
     record {
       steps = walk-step s e p;
@@ -35,6 +35,8 @@ stays s e p =
       stands = λ t m. each-good s e p t m .is;
       behind = λ t m. each-good s e p t m .starts;
       within = λ t m. each-good s e p t m .inside;
+      typed = λ t m. each-good s e p t m .typed;
+      unpadded = λ t m. each-good s e p t m .unpadded;
     }
 
 -- what a lookup finds is the head of the tags of its type
@@ -60,7 +62,7 @@ low-byte : (h : List ℕ) (p : ℕ) → byteAt h p < 256 → numberAt 2 h p % 25
 unfolding numberAt
 low-byte h p l = omega arith
 
-pub agrees : (h : List ℕ) (k : ℕ) → Agrees h k
+pub agrees : LookupsAgree
 agrees h k =
     record {
       found = λ t ts l e. long-enough h k l ∙ head-of k (walk h 256 8 .tags) (walk h 256 8 .number) ∙ rw e;

@@ -47,10 +47,14 @@ abbrev pub ofKind : ℕ → List Tag → List Tag
 ofKind k [] = []
 ofKind k (t ∷ ts) = cond (eqb (t .kind) k) (t ∷ ofKind k ts) (ofKind k ts)
 
--- What is shown of every lookup (proofs/Shown.antt): in a header that is long enough it gives the first of the tags of its type, and
--- otherwise how the walk ended; type 0000 and, in bytes, a type whose low byte is FF are never found.
+-- In a header that is long enough a lookup gives the first of the tags of its type, and otherwise how the walk ended; type 0000 and, in
+-- bytes, a type whose low byte is FF are never found.
 pub record Agrees (h : List ℕ) (k : ℕ) : Type 0 where
   pub found : (t : Tag) (ts : List Tag) → 256 ≤ length h → ofKind k (headerWalk h .tags) ≡ t ∷ ts → lookup h k ≡ Found t
   pub absent : 256 ≤ length h → ofKind k (headerWalk h .tags) ≡ [] → lookup h k ≡ Refused (headerWalk h .number)
   pub never-0000 : (t : Tag) → k ≡ 0 → lookup h k ≡ Found t → ⊥
   pub never-low-FF : (t : Tag) → ((p : ℕ) → byteAt h p < 256) → k % 256 ≡ 0xFF → lookup h k ≡ Found t → ⊥
+
+-- Proved in proofs/Shown.antt.
+abbrev pub LookupsAgree : Type 0
+LookupsAgree = (h : List ℕ) (k : ℕ) → Agrees h k

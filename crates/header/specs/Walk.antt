@@ -40,7 +40,7 @@ walkIn zero s e p = record { tags = []; number = 25 }
 walkIn (suc k) s e p = onStep (walkIn k s e) (stepAt s e p)
 
 -- The walk from place p. Each step but the last goes to a later place, none beyond e, so there are never more than e + 1: the walk is its
--- first step and the walk from there (walk-step in proofs/Walk.antt).
+-- first step and the walk from there (steps, in WalksStay).
 unfoldable pub walk : List ℕ → ℕ → ℕ → Walk
 walk s e p = walkIn (suc e) s e p
 
@@ -48,11 +48,17 @@ walk s e p = walkIn (suc e) s e p
 abbrev pub headerWalk : List ℕ → Walk
 headerWalk h = walk h 256 8
 
--- What is shown of every walk (proofs/Shown.antt): it is its first step and the walk from there, so it ends; it ends with 13 or 25; and
--- every tag that it meets stands in the bytes, behind place p and not beyond e.
+-- A walk is its first step and the walk from there; it ends with 13 or 25; and every tag that it meets stands in the bytes, behind place p
+-- and not beyond e, has a type other than 0000 and no low type byte FF.
 pub record Stays (s : List ℕ) (e p : ℕ) : Type 0 where
   pub steps : walk s e p ≡ onStep (walk s e) (stepAt s e p)
   pub ends : (walk s e p .number ≡ 13) ⊎ (walk s e p .number ≡ 25)
   pub stands : (t : Tag) → List·Memᴰ t (walk s e p .tags) → t ≡ tagAt s (t .at - 4)
   pub behind : (t : Tag) → List·Memᴰ t (walk s e p .tags) → p + 4 ≤ t .at
   pub within : (t : Tag) → List·Memᴰ t (walk s e p .tags) → t .at + t .len ≤ e
+  pub typed : (t : Tag) → List·Memᴰ t (walk s e p .tags) → t .kind ≡ 0 → ⊥
+  pub unpadded : (t : Tag) → List·Memᴰ t (walk s e p .tags) → byteAt s (t .at - 4) ≡ 0xFF → ⊥
+
+-- Proved in proofs/Shown.antt.
+abbrev pub WalksStay : Type 0
+WalksStay = (s : List ℕ) (e p : ℕ) → Stays s e p

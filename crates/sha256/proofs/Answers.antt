@@ -14,7 +14,7 @@ use Rattle.sha256.specs.Digest.{hashed, toBytes, digest, longestOfAll, g
 use Rattle.sha256.specs.Message.{padTo, N}
 use Rattle.sha256.specs.Reading.{PaddedRest}
 use Rattle.sha256.specs.declared.hash.Hash.{Hash}
-use Rattle.sha256.proofs.Padding.{length-pad}
+use Rattle.sha256.proofs.Padding.{block-count}
 
 module _ (most k n m : ℕ) (e : true ≡ leb (64 * k + (n + m)) most) where
   pub short : 64 * k + (n + m) ≤ most
@@ -38,7 +38,7 @@ module _ (most : ℕ) (s : Hash) (k : ℕ) (a b : List ℕ) where
 -- with nothing before it, a message's answer
 pub from-nothing : (most : ℕ) (m : List ℕ) → afterUpTo most initial 0 m ≡ answerUpTo most m
 unfolding answerUpTo afterUpTo digest
-from-nothing most m = rw (zero-add, length-pad m)
+from-nothing most m = rw (zero-add, block-count m)
 
 -- a message that is short enough has its digest, of 32 bytes
 pub short-enough : (most : ℕ) (m : List ℕ) → length m ≤ most → answerUpTo most m ≡ given (digest m)

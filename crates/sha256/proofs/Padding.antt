@@ -6,7 +6,7 @@ use mathlib.Core.Path.{_≡_, sym, ap, _∙_}
 use native.Mathlib.Omega.{arith}
 use lib.ListN.{getD, length, replicate, length-append, length-replicate, getD-replicate, List·getD-append}
 use lib.Seq.{getD-append-add}
-use Rattle.sha256.specs.Message.{bytes, zeros, padding, padTo, pad, N}
+use Rattle.sha256.specs.Message.{bytes, zeros, padding, padTo, pad, N, PaddingRule}
 
 pub append-at : (xs ys : List ℕ) (i : ℕ) → length xs ≤ i → getD (xs ++ ys) i 0 ≡ getD ys (i - length xs) 0
 append-at xs ys i h = ap (λ (k : ℕ). getD (xs ++ ys) k 0) (omega arith) ∙ getD-append-add xs ys (i - length xs) 0
@@ -16,17 +16,19 @@ bytes-at zero x j h = omega arith
 bytes-at (suc k) x zero h = ap (λ (n : ℕ). x / 2 ^ (8 * n) % 256) (omega arith)
 bytes-at (suc k) x (suc j) h = bytes-at k x j (omega arith) ∙ ap (λ (n : ℕ). x / 2 ^ (8 * n) % 256) (omega arith)
 
--- FIPS's rule for the zeros, in bytes: the least gap that leaves room for the length at a block's end
-pub zeros-rule : (n : ℕ) → ((n + 1 + zeros n) % 64 ≡ 56) × (zeros n < 64)
-zeros-rule n = (omega arith, omega arith)
-
 length-padding : (n : ℕ) → length (padding n) ≡ zeros n + 9
 unfolding padding
 length-padding n = simp (length-append, length-replicate) (omega arith)
 
-pub length-pad : (m : List ℕ) → length (pad m) / 64 ≡ N (length m)
+length-pad : (m : List ℕ) → length (pad m) ≡ 64 * N (length m)
 unfolding padTo
 length-pad m = simp (length-append, length-padding) (omega arith)
+
+pub padding-rule : PaddingRule
+padding-rule = record { solves = λ n. omega arith; least = λ n z e. omega arith; blocks = length-pad }
+
+pub block-count : (m : List ℕ) → length (pad m) / 64 ≡ N (length m)
+block-count m = omega (arith, length-pad m)
 
 -- byte k of the padding of a message of n bytes: the mark, the gap of zeros, the count of bits
 module _ (n k : ℕ) where

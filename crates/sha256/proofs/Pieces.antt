@@ -10,7 +10,7 @@ use Rattle.sha256.specs.Constants.{initial}
 use Rattle.sha256.specs.Digest.{hashed, digest, answer, answerUpTo, afterUpTo, answerAfter, HandedOn}
 use Rattle.sha256.specs.Message.{padding, padTo, pad, N, M}
 use Rattle.sha256.specs.declared.hash.Hash.{Hash}
-use Rattle.sha256.proofs.Padding.{append-at, length-pad}
+use Rattle.sha256.proofs.Padding.{append-at, block-count}
 use Rattle.sha256.proofs.Parsing.{same-block}
 
 module _ (p q : List ℕ) where
@@ -42,11 +42,11 @@ module _ (p : List ℕ) (k : ℕ) (e : length p ≡ 64 * k) (m : List ℕ) where
   padded = rw (all-bytes, append-assoc p m (padding (64 * k + length m)))
 
   all-blocks : length (pad (p ++ m)) / 64 ≡ k + N (length m)
-  all-blocks = rw (length-pad (p ++ m), all-bytes) (omega arith)
+  all-blocks = rw (block-count (p ++ m), all-bytes) (omega arith)
 
   finished : answerAfter (hashed initial p k) k m ≡ answer (p ++ m)
   unfolding answerUpTo afterUpTo digest
   finished = rw (all-blocks, padded, all-bytes, onward p (padTo (64 * k + length m) m) initial k (N (length m)) e)
 
-pub handed-on : (p : List ℕ) (k : ℕ) → length p ≡ 64 * k → HandedOn p k
-handed-on p k e = record { onward = λ s q j. onward p q s k j e; finished = finished p k e }
+pub handed-on : HandedOn
+handed-on = record { onward = λ p k e s q j. onward p q s k j e; finished = finished }

@@ -18,11 +18,11 @@ back m t (suc k) = rw suc-add (back m t k)
 at : (m : List ℕ) (n k t : ℕ) → n ≡ suc (k + t) → getD (before m n) k 0 ≡ W m t
 at m n k t e = rw e (back m t k)
 
-pub recurrence : (m : List ℕ) (t : ℕ) → Recurrence m t
+pub recurrence : Recurrence
 unfolding W wordAfter
-recurrence m t =
+recurrence =
     record {
-      first = λ h. rw (lt-ltb t 16 h);
-      next = λ h. rw (le-ltb t 16 h)
+      first = λ m t h. rw (lt-ltb t 16 h);
+      next = λ m t h. rw (le-ltb t 16 h)
           (cc (at m t 1 (t - 2) (omega arith), at m t 6 (t - 7) (omega arith), at m t 14 (t - 15) (omega arith), at m t 15 (t - 16) (omega arith)));
     }

@@ -22,7 +22,7 @@ abbrev Ring : List ℕ → ℕ → List ℕ → Type 0
 Ring m t w = (j : ℕ) → j < max 16 t → t ≤ j + 16 → getD w (j % 16) 0 ≡ W m j
 
 ring-start : (m : List ℕ) → Ring m 0 m
-ring-start m j h _ = let l : j < 16 = omega arith in rw (mod-eq-of-lt l) (sym (recurrence m j .first l))
+ring-start m j h _ = let l : j < 16 = omega arith in rw (mod-eq-of-lt l) (sym (recurrence .first m j l))
 
 module _ (m w : List ℕ) (t : ℕ) (r : Ring m t w) where
   there : (i j : ℕ) → i % 16 ≡ j % 16 → j < max 16 t → t ≤ j + 16 → getD w (i % 16) 0 ≡ W m j
@@ -35,7 +35,7 @@ module _ (m w : List ℕ) (t : ℕ) (r : Ring m t w) where
         | yes h ↦ rw (lt-ltb t 16 h) (rw (mod-eq-of-lt h) at (r t (omega arith) (omega arith)))
         | no h ↦ let l : 16 ≤ t = omega arith in
             rw (le-ltb t 16 l)
-            (cc (recurrence m t .next l, there (t + 14) (t - 2) (omega arith) (omega arith) (omega arith), there (t + 9) (t - 7) (omega arith) (omega arith) (omega arith), there (t + 1) (t - 15) (omega arith) (omega arith) (omega arith), there t (t - 16) (omega arith) (omega arith) (omega arith)))
+            (cc (recurrence .next m t l, there (t + 14) (t - 2) (omega arith) (omega arith) (omega arith), there (t + 9) (t - 7) (omega arith) (omega arith) (omega arith), there (t + 1) (t - 15) (omega arith) (omega arith) (omega arith), there t (t - 16) (omega arith) (omega arith) (omega arith)))
       ]
 
   ring-next : length w ≡ 16 → Ring m (suc t) (set w (t % 16) (W m t))

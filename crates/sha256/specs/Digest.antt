@@ -53,7 +53,8 @@ afterUpTo most s k m =
 abbrev pub answerAfter : Hash → ℕ → List ℕ → Answer
 answerAfter s k m = afterUpTo longest s k m
 
--- Handing the hash value on: what proofs/Pieces.antt shows of a message that begins with the k whole blocks p.
-pub record HandedOn (p : List ℕ) (k : ℕ) : Type 0 where
-  pub onward : (s : Hash) (q : List ℕ) (j : ℕ) → hashed s (p ++ q) (k + j) ≡ hashed (hashed s p k) q j
-  pub finished : (m : List ℕ) → answerAfter (hashed initial p k) k m ≡ answer (p ++ m)
+-- The hash value after the k whole blocks p is all that the rest of a message needs of them. Proved in proofs/Pieces.antt.
+pub record HandedOn : Type 0 where
+  pub onward :
+      (p : List ℕ) (k : ℕ) → length p ≡ 64 * k → (s : Hash) (q : List ℕ) (j : ℕ) → hashed s (p ++ q) (k + j) ≡ hashed (hashed s p k) q j
+  pub finished : (p : List ℕ) (k : ℕ) → length p ≡ 64 * k → (m : List ℕ) → answerAfter (hashed initial p k) k m ≡ answer (p ++ m)

@@ -1,6 +1,7 @@
 -- FIPS 180-4, 5.1.1 and 5.2.1: a message of bytes, padded and parsed into blocks of sixteen words.
-use Prim.Native.Nat.{ℕ, zero, suc, _+_, _-_, _*_, _/_, _%_, _^_}
+use Prim.Native.Nat.{ℕ, zero, suc, _+_, _-_, _*_, _/_, _%_, _^_, _≤_}
 use mathlib.Core.List.{List, [], _∷_, _++_}
+use mathlib.Core.Path.{_≡_}
 use lib.ListN.{getD, length, replicate}
 
 -- the k low bytes of x, the highest first
@@ -8,8 +9,7 @@ abbrev pub bytes : ℕ → ℕ → List ℕ
 bytes zero x = []
 bytes (suc k) x = x / 2 ^ (8 * k) % 256 ∷ bytes k x
 
--- 5.1.1: how many zero bytes follow the byte 80: the least z for which n + 1 + z is 56 modulo 64 (in FIPS's bits, l + 1 + k ≡ 448 mod 512);
--- shown by zeros-rule in proofs/Padding.antt
+-- 5.1.1: how many zero bytes follow the byte 80 (PaddingRule, below, has FIPS's own words)
 abbrev pub zeros : ℕ → ℕ
 zeros n = (119 - n % 64) % 64
 
@@ -24,9 +24,16 @@ padTo n m = m ++ padding n
 abbrev pub pad : List ℕ → List ℕ
 pad m = padTo (length m) m
 
--- the number N of blocks of a padded message of n bytes (proofs/Padding.antt, length-pad)
+-- the number N of blocks of a padded message of n bytes
 abbrev pub N : ℕ → ℕ
 N n = (n + 8) / 64 + 1
+
+-- 5.1.1: the zero bytes are the least z for which n + 1 + z is 56 modulo 64 (in FIPS's bits, l + 1 + k ≡ 448 mod 512), and a padded
+-- message is N whole blocks. Proved in proofs/Padding.antt.
+pub record PaddingRule : Type 0 where
+  pub solves : (n : ℕ) → (n + 1 + zeros n) % 64 ≡ 56
+  pub least : (n z : ℕ) → (n + 1 + z) % 64 ≡ 56 → zeros n ≤ z
+  pub blocks : (m : List ℕ) → length (pad m) ≡ 64 * N (length m)
 
 -- 3.1, 3 and 5.2.1: the word that starts at byte i of p, and the n words from there on
 abbrev pub wordAt : List ℕ → ℕ → ℕ

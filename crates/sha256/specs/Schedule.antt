@@ -20,7 +20,7 @@ before m (suc t) = let p = before m t in wordAfter m t p ∷ p
 unfoldable pub W : List ℕ → ℕ → ℕ
 W m t = wordAfter m t (before m t)
 
--- FIPS's own two lines for W, which proofs/Recurrence.antt shows of it
-pub record Recurrence (m : List ℕ) (t : ℕ) : Type 0 where
-  pub first : t < 16 → W m t ≡ getD m t 0
-  pub next : 16 ≤ t → W m t ≡ (σ₁ (W m (t - 2)) + W m (t - 7) + σ₀ (W m (t - 15)) + W m (t - 16)) % 2 ^ 32
+-- FIPS's own two lines for W. Proved in proofs/Recurrence.antt.
+pub record Recurrence : Type 0 where
+  pub first : (m : List ℕ) (t : ℕ) → t < 16 → W m t ≡ getD m t 0
+  pub next : (m : List ℕ) (t : ℕ) → 16 ≤ t → W m t ≡ (σ₁ (W m (t - 2)) + W m (t - 7) + σ₀ (W m (t - 15)) + W m (t - 16)) % 2 ^ 32

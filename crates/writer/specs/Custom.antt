@@ -12,7 +12,7 @@ use Rattle.header.specs.declared.tags.Tag.{Tag}
 abbrev pub named : ℕ → Bool
 named k = eqb k versionType || eqb k timestampType || eqb k digestType || eqb k hintType || eqb k signatureType || eqb k firmwareType
 
--- The tags of a run: those that the header's walk meets in it. So none passes the run's end, has type 0000 or the low type byte FF.
+-- The tags of a run: those that the header's walk meets in it. So none passes the run's end, has type 0000 or the low type byte FF (WalksStay).
 abbrev pub tagsOf : List ℕ → List Tag
 tagsOf run = walk run (length run) 0 .tags
 
