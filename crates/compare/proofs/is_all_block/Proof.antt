@@ -1,11 +1,12 @@
 use Prim.Native.Nat.{_-_, _≤_}
 use mathlib.Core.Bool.{_&&_}
-use mathlib.Core.Path.{_≡_, refl}
+use mathlib.Core.Path.{_≡_, refl, _∙_}
 use native.Mathlib.Omega.{arith}
 use borrow.Author.Needs.{needs}
 use lib.ListN.{length, drop}
 use Rattle.compare.specs.Compare.{all}
-use Rattle.compare.proofs.Values.{all-more, all-over}
+use Rattle.compare.proofs.Parts.{after, over}
+use Rattle.compare.proofs.Values.{all-byte, all-none}
 use Rattle.compare.proofs.is_all_block.Statement.{statement}
 use Rattle.compare.proofs.is_all_block.Tie as tie
 
@@ -22,13 +23,13 @@ loop-again : tie.Need-loop-again Inv-loop μ-loop
 loop-again c =
     let l = c .before .before in
     let a = l .before .args in
-    (omega arith, all-more (a .v) (l .loop .i) (a .bytes .now) (l .loop .ok) (l .loop .inv .1) (omega arith))
+    (omega arith, after (l .loop .ok) (all-byte (a .v) (a .bytes .now) (l .loop .i) (omega arith)) .both ∙ l .loop .inv .1)
 
 returns : tie.Need-returns Inv-loop μ-loop
 returns c =
     let l = c .before in
     let a = l .before .args in
-    all-over (a .v) (l .loop .i) (a .bytes .now) (l .loop .ok) (l .loop .inv .1) (omega arith)
+    over (l .loop .ok) (all-none (a .v) (a .bytes .now) (l .loop .i) (omega arith)) (l .loop .inv .1)
 
 pub is-all-block-spec : {M : Type 1} → statement M
 is-all-block-spec =

@@ -1,10 +1,11 @@
 use Prim.Native.Nat.{_-_, _≤_}
-use mathlib.Core.Path.{_≡_, refl}
+use mathlib.Core.Path.{_≡_, refl, _∙_}
 use native.Mathlib.Omega.{arith}
 use borrow.Author.Needs.{needs}
 use lib.ListN.{length, drop}
 use Rattle.compare.specs.Compare.{same}
-use Rattle.compare.proofs.Sameness.{same-lengths, block-lengths, same-next, same-stop, same-all}
+use Rattle.compare.proofs.Parts.{Splits, next, stop}
+use Rattle.compare.proofs.Sameness.{same-lengths, same-block, same-none, block-lengths}
 use Rattle.compare.proofs.same.Statement.{statement}
 use Rattle.compare.proofs.same.Tie as tie
 
@@ -25,33 +26,32 @@ is-same-block-requires c κs =
     let e = c .before .before in
     let l = e .before .before in
     let a = l .before .before .before .before .args in
-    block-lengths (l .loop .i) (e .block-end .result) (a .a .now) (a .b .now) (l .before .if1 .left)
+    block-lengths (a .a .now) (a .b .now) (l .before .if1 .left) (l .loop .i) (e .block-end .result)
 
-loop-again : tie.Need-loop-again Inv-loop μ-loop
-loop-again c =
-    let r = c .before in
-    let e = r .before .before .before in
-    let l = e .before .before in
-    let a = l .before .before .before .before .args in (
-      omega (arith, e .block-end .ensures .inside),
-      same-next (l .loop .i) (e .block-end .result) (a .a .now) (a .b .now) (omega (arith, e .block-end .ensures .more)) (l .loop .inv .1)
-          (r .is-same-block .result) (c .if2 .taken) (r .is-same-block .ensures),
-    )
-
-returns-2 : tie.Need-returns-2 Inv-loop μ-loop
-returns-2 c =
-    let r = c .before in
-    let e = r .before .before .before in
+-- the block, and what is left behind it
+split :
+    (c : tie.After-is-same-block Inv-loop μ-loop) →
+    let end = c .before .before .before .block-end .result in
+    let a = c .before .before .before .before .before .before .before .before .before .args in
+    Splits (c .is-same-block .result) (same (drop end (a .a .now)) (drop end (a .b .now))) (same (a .a .now) (a .b .now))
+split c =
+    let e = c .before .before .before in
     let l = e .before .before in
     let a = l .before .before .before .before .args in
-    same-stop (l .loop .i) (e .block-end .result) (a .a .now) (a .b .now) (omega (arith, e .block-end .ensures .more)) (l .loop .inv .1)
-    (r .is-same-block .result) (c .if2 .left) (r .is-same-block .ensures)
+    rw (c .is-same-block .ensures, ← l .loop .inv .1)
+    (same-block (a .a .now) (a .b .now) (l .before .if1 .left) (l .loop .i) (e .block-end .result) (omega (arith, e .block-end .ensures .more)))
+
+loop-again : tie.Need-loop-again Inv-loop μ-loop
+loop-again c = (omega (arith, c .before .before .before .before .block-end .ensures .inside), next (split (c .before)) (c .if2 .taken))
+
+returns-2 : tie.Need-returns-2 Inv-loop μ-loop
+returns-2 c = stop (split (c .before)) (c .if2 .left)
 
 returns-3 : tie.Need-returns-3 Inv-loop μ-loop
 returns-3 c =
     let l = c .before in
     let a = l .before .before .before .before .args in
-    same-all (l .loop .i) (a .a .now) (a .b .now) (l .before .if1 .left) (l .loop .inv .1) (omega arith)
+    same-none (a .a .now) (a .b .now) (l .before .if1 .left) (l .loop .i) (omega arith) ∙ l .loop .inv .1
 
 pub same-spec : {M : Type 1} → statement M
 same-spec =
