@@ -5,7 +5,7 @@ use mathlib.Core.List.{List, _++_}
 use lib.Dec.{eqb}
 use lib.ListN.{length, drop}
 use Rattle.header.specs.Numbers.{byteAt, numberAt}
-use Rattle.records.specs.Records.{partOf, firstOf}
+use Rattle.records.specs.Records.{partOf, firstBytes}
 
 abbrev pub nameIn : List ℕ → List ℕ
 nameIn s = partOf s 1 (byteAt s 0)
@@ -28,7 +28,7 @@ abbrev pub fitting : List ℕ → List ℕ → ℕ
 fitting f space = min (length f) (length space)
 
 unfoldable pub loaded : List ℕ → List ℕ → List ℕ
-loaded f space = firstOf (fitting f space) f ++ drop (fitting f space) space
+loaded f space = firstBytes (fitting f space) f ++ drop (fitting f space) space
 
 -- its length there; an empty one is the flash before
 abbrev pub flashLength : List ℕ → ℕ → List ℕ → ℕ

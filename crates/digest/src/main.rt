@@ -3,12 +3,12 @@
 // standard error, and nothing is printed.
 use files::fill;
 use libc::STDIN_FILENO;
-use sha256::Answer;
+use sha256::DigestAnswer;
 use sha256::Hash;
 
 // What was read and hashed, and whether a read failed.
 struct Outcome {
-    answer: Answer,
+    answer: DigestAnswer,
     failed: bool,
 }
 

@@ -3,8 +3,8 @@ use Prim.Native.Nat.{ℕ}
 use mathlib.Core.Bool.{cond}
 use mathlib.Core.List.{List}
 use lib.Dec.{eqb}
-use Rattle.sha256.specs.declared.Answer.{Answer}
+use Rattle.sha256.specs.declared.DigestAnswer.{DigestAnswer}
 
 -- the answer's bytes, or where it refuses the buffer as it was
-abbrev pub filled : Answer → List ℕ → List ℕ
+abbrev pub filled : DigestAnswer → List ℕ → List ℕ
 filled a old = cond (eqb (a .number) 0) (a .bytes) old

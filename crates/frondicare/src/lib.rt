@@ -47,7 +47,7 @@ pub extern "C" fn frondicare_digest_of_two(
     store(a, digest)
 }
 
-fn store(a: sha256::Answer, digest: &mut [u8; 32]) -> u32
+fn store(a: sha256::DigestAnswer, digest: &mut [u8; 32]) -> u32
     ensures number { λ r. ⌜ r ≡ a .number ⌝ }
     ensures bytes { λ _. ⌜ now (digest .exit) ≡ filled a (now (digest .entry)) ⌝ }
 {

@@ -5,7 +5,7 @@ use mathlib.Core.Bool.{Bool, true, false, cond}
 use mathlib.Core.List.{List, [], _∷_}
 use mathlib.Core.Path.{_≡_, refl, ap, _∙_}
 use lib.Dec.{eqb}
-use Rattle.header.specs.Checks.{firstOf, walkCheck, mandatoryCheck, tagsCheck}
+use Rattle.header.specs.Checks.{firstRefusal, walkCheck, mandatoryCheck, tagsCheck}
 use Rattle.header.specs.Lookup.{ofKind}
 use Rattle.header.specs.Seen.{numberAfter, seenAfter, firstSeen}
 use Rattle.header.specs.Walk.{stepAt, Walk, onStep, walk}
@@ -81,9 +81,9 @@ each s (t ∷ ts) = each (seenAfter s t) ts
 
 -- what the checks of a walk come to, where some tags were seen before it
 abbrev pub checked : Seen → Walk → ℕ
-checked s w = firstOf (walkCheck (w .number) ∷ firstSeen (seenAll s (w .tags)) ∷ [])
+checked s w = firstRefusal (walkCheck (w .number) ∷ firstSeen (seenAll s (w .tags)) ∷ [])
 
-pub all-checked : (w : Walk) → checked nothing w ≡ firstOf (walkCheck (w .number) ∷ tagsCheck (w .tags) ∷ [])
+pub all-checked : (w : Walk) → checked nothing w ≡ firstRefusal (walkCheck (w .number) ∷ tagsCheck (w .tags) ∷ [])
 unfolding firstSeen tagsCheck
 all-checked w =
     rw (
@@ -100,7 +100,7 @@ module _ (h : List ℕ) (p : ℕ) (s : Seen) where
   step-of : {w : WalkStep} → stepAt h 256 p ≡ w → checked s (walk h 256 p) ≡ checked s (onStep (walk h 256) w)
   step-of q = ap (checked s) (walk-step h 256 p ∙ ap (onStep (walk h 256)) q)
 
-  pub checked-stop : {n : ℕ} → stepAt h 256 p ≡ Stop n → checked s (walk h 256 p) ≡ firstOf (walkCheck n ∷ firstSeen s ∷ [])
+  pub checked-stop : {n : ℕ} → stepAt h 256 p ≡ Stop n → checked s (walk h 256 p) ≡ firstRefusal (walkCheck n ∷ firstSeen s ∷ [])
   checked-stop q = step-of q
 
   pub checked-padding : {q : ℕ} → stepAt h 256 p ≡ Padding q → checked s (walk h 256 p) ≡ checked s (walk h 256 q)

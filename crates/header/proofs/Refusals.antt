@@ -7,16 +7,16 @@ use native.Mathlib.Omega.{arith}
 use lib.Dec.{ltb, eqb, eqb·suc-zero}
 use lib.ListN.{length, getD}
 use borrow.Author.Tests.{ltb-false, eqb-true, eqb-false}
-use Rattle.header.specs.Checks.{firstOf, lengthCheck, markCheck, sizeOf, sizeCheck, walkCheck, tagsCheck, headerCheck}
+use Rattle.header.specs.Checks.{firstRefusal, lengthCheck, markCheck, sizeOf, sizeCheck, walkCheck, tagsCheck, headerCheck}
 use Rattle.header.specs.Walk.{walk}
 use Rattle.compare.proofs.Tests.{by-test}
 
-pub first-one : (n : ℕ) → firstOf (n ∷ []) ≡ n
+pub first-one : (n : ℕ) → firstRefusal (n ∷ []) ≡ n
 first-one zero = refl
 first-one (suc n) = simp (eqb·suc-zero n)
 
 -- where the first number that is not 0 is 0, all are
-pub zero-at : (ns : List ℕ) (k : ℕ) → firstOf ns ≡ 0 → getD ns k 0 ≡ 0
+pub zero-at : (ns : List ℕ) (k : ℕ) → firstRefusal ns ≡ 0 → getD ns k 0 ≡ 0
 zero-at [] k e = refl
 zero-at (n ∷ ns) zero e = by-test (λ (r : ℕ). r ≡ 0 → n ≡ 0) (eqb n 0) (λ t e. eqb-true _ _ t) (λ f e. e) e
 zero-at (n ∷ ns) (suc k) e =

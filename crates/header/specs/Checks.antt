@@ -12,9 +12,9 @@ use Rattle.header.specs.declared.checks.Version.{Version}
 use Rattle.header.specs.declared.tags.Tag.{Tag}
 
 -- the first number that is not 0, and 0 where there is none
-abbrev pub firstOf : List ℕ → ℕ
-firstOf [] = 0
-firstOf (n ∷ ns) = cond (eqb n 0) (firstOf ns) n
+abbrev pub firstRefusal : List ℕ → ℕ
+firstRefusal [] = 0
+firstRefusal (n ∷ ns) = cond (eqb n 0) (firstRefusal ns) n
 
 abbrev pub lengthCheck : List ℕ → ℕ
 lengthCheck i = cond (ltb (length i) 256) 10 0
@@ -55,12 +55,12 @@ mandatory =
     ∷ []
 
 unfoldable pub tagsCheck : List Tag → ℕ
-tagsCheck ts = firstOf (map (λ (m : record { kind : ℕ; len : ℕ }). mandatoryCheck (m .len) (ofKind (m .kind) ts)) mandatory)
+tagsCheck ts = firstRefusal (map (λ (m : record { kind : ℕ; len : ℕ }). mandatoryCheck (m .len) (ofKind (m .kind) ts)) mandatory)
 
 -- the number of the first check that an image's header fails, and 0 where it fails none
 unfoldable pub headerCheck : List ℕ → ℕ
 headerCheck i =
-    firstOf
+    firstRefusal
     (lengthCheck i
     ∷ markCheck i
     ∷ sizeCheck i

@@ -3,7 +3,7 @@ use Prim.Native.Nat.{ℕ}
 use mathlib.Core.Bool.{Bool, cond}
 use mathlib.Core.List.{[], _∷_}
 use lib.Dec.{eqb}
-use Rattle.header.specs.Checks.{firstOf}
+use Rattle.header.specs.Checks.{firstRefusal}
 use Rattle.header.specs.Types.{versionType, timestampType, digestType, signatureType, firmwareType}
 use Rattle.header.specs.declared.checks.Seen.{Seen}
 use Rattle.header.specs.declared.tags.Tag.{Tag}
@@ -23,4 +23,4 @@ seenAfter s t =
     }
 
 unfoldable pub firstSeen : Seen → ℕ
-firstSeen s = firstOf (s .version ∷ s .timestamp ∷ s .digest ∷ s .signature ∷ s .«firmware_type» ∷ [])
+firstSeen s = firstRefusal (s .version ∷ s .timestamp ∷ s .digest ∷ s .signature ∷ s .«firmware_type» ∷ [])

@@ -2,7 +2,7 @@
 ghost use mathlib.Core.List.{_∷_, []};
 ghost use mathlib.Core.Path.{_≡_};
 ghost use Rattle.header.specs.Walk.{headerWalk};
-ghost use Rattle.header.specs.Checks.{firstOf, marked, walkCheck, tagsCheck, headerCheck, versionOf};
+ghost use Rattle.header.specs.Checks.{firstRefusal, marked, walkCheck, tagsCheck, headerCheck, versionOf};
 ghost use Rattle.header.specs.Seen.{numberAfter, seenAfter, firstSeen};
 use crate::DIGEST;
 use crate::FIRMWARE_TYPE;
@@ -70,7 +70,7 @@ fn seen_after(s: Seen, t: Tag) -> Seen
 }
 
 // The mandatory types, in document 01's order.
-fn first_of(s: Seen) -> u32
+fn first_seen(s: Seen) -> u32
     ensures { λ r. ⌜ r ≡ firstSeen s ⌝ }
 {
     if s.version != 0 {
@@ -90,7 +90,7 @@ fn first_of(s: Seen) -> u32
 
 // 13 to 16, or 0, in one walk over the tags.
 fn check_tags(header: &[u8]) -> u32
-    ensures { λ r. ⌜ r ≡ firstOf (walkCheck (headerWalk (now (header .entry)) .number) ∷ tagsCheck (headerWalk (now (header .entry)) .tags) ∷ []) ⌝ }
+    ensures { λ r. ⌜ r ≡ firstRefusal (walkCheck (headerWalk (now (header .entry)) .number) ∷ tagsCheck (headerWalk (now (header .entry)) .tags) ∷ []) ⌝ }
 {
     let mut seen = Seen {
         version: 14,
@@ -106,7 +106,7 @@ fn check_tags(header: &[u8]) -> u32
                 if number == 13 {
                     return 13;
                 }
-                return first_of(seen);
+                return first_seen(seen);
             }
             WalkStep::Padding(next) => p = next,
             WalkStep::Met(t) => {

@@ -4,7 +4,7 @@ use mathlib.Core.Bool.{Bool, cond}
 use mathlib.Core.List.{List, [], _∷_, _++_}
 use lib.ListN.{take, drop}
 use Rattle.compare.specs.Compare.{same}
-use Rattle.header.specs.Checks.{firstOf, sizeOf, headerCheck}
+use Rattle.header.specs.Checks.{firstRefusal, sizeOf, headerCheck}
 use Rattle.header.specs.Lookup.{viewOf, coveredOf}
 use Rattle.header.specs.Types.{digestType}
 use Rattle.sha256.specs.Digest.{digest}
@@ -25,4 +25,4 @@ signatureCheck signed = cond signed 0 18
 
 -- the number of the first check that an image fails, and 0 where it passes
 unfoldable pub verdict : List ℕ → Bool → ℕ
-verdict i signed = firstOf (headerCheck i ∷ digestCheck i ∷ signatureCheck signed ∷ [])
+verdict i signed = firstRefusal (headerCheck i ∷ digestCheck i ∷ signatureCheck signed ∷ [])

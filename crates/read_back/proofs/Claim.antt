@@ -8,7 +8,7 @@ use native.Mathlib.Omega.{arith}
 use lib.ListN.{length, replicate, length-append}
 use lib.Seq.{take-length}
 use borrow.Author.Tests.{le-ltb, ne-eqb}
-use Rattle.header.specs.Checks.{firstOf, lengthCheck, markCheck, sizeOf, sizeCheck, walkCheck, mandatoryCheck, tagsCheck, headerCheck, versionOf}
+use Rattle.header.specs.Checks.{firstRefusal, lengthCheck, markCheck, sizeOf, sizeCheck, walkCheck, mandatoryCheck, tagsCheck, headerCheck, versionOf}
 use Rattle.header.specs.Lookup.{ofKind}
 use Rattle.header.specs.Walk.{stepAt, walkIn, walk}
 use Rattle.header.specs.declared.tags.Tag.{Tag}
@@ -30,10 +30,10 @@ pub numbers-read : NumbersRead
 numbers-read n x l = number-at n (leBytes n x) 0 x [] l (sym (append-nil (leBytes n x)))
 
 -- checks that all pass
-all-five : (a b c d e : ℕ) → a ≡ 0 → b ≡ 0 → c ≡ 0 → d ≡ 0 → e ≡ 0 → firstOf (a ∷ b ∷ c ∷ d ∷ e ∷ []) ≡ 0
+all-five : (a b c d e : ℕ) → a ≡ 0 → b ≡ 0 → c ≡ 0 → d ≡ 0 → e ≡ 0 → firstRefusal (a ∷ b ∷ c ∷ d ∷ e ∷ []) ≡ 0
 all-five a b c d e p q r s t = rw (p, q, r, s, t)
 
-last-one : (a b n : ℕ) → a ≡ 0 → b ≡ 0 → firstOf (a ∷ b ∷ n ∷ []) ≡ n
+last-one : (a b n : ℕ) → a ≡ 0 → b ≡ 0 → firstRefusal (a ∷ b ∷ n ∷ []) ≡ n
 last-one a b n p q = rw (p, q) (first-one n)
 
 module _ (fields : Fields) (firmware custom hint signature : List ℕ)

@@ -11,6 +11,6 @@ unfoldable pub partOf : List ℕ → ℕ → ℕ → List ℕ
 partOf s from n = cond (leb (from + n) (length s)) (take n (drop from s)) []
 
 -- the first k bytes
-unfoldable pub firstOf : ℕ → List ℕ → List ℕ
-firstOf zero s = []
-firstOf (suc k) s = firstOf k s ++ (byteAt s k ∷ [])
+unfoldable pub firstBytes : ℕ → List ℕ → List ℕ
+firstBytes zero s = []
+firstBytes (suc k) s = firstBytes k s ++ (byteAt s k ∷ [])

@@ -3,7 +3,7 @@
 ghost use mathlib.Core.Path.{_≡_};
 ghost use lib.ListN.{length};
 ghost use Rattle.header.specs.Numbers.{byteAt, numberAt};
-ghost use Rattle.records.specs.Records.{partOf, firstOf};
+ghost use Rattle.records.specs.Records.{partOf, firstBytes};
 use header::u32_at;
 
 pub fn byte_at(s: &[u8], p: usize) -> u8
@@ -38,7 +38,7 @@ pub fn part(s: &[u8], from: usize, n: usize) -> &[u8]
 
 // Fills a buffer with the first bytes.
 pub fn copy(s: &[u8], to: &mut [u8])
-    ensures { λ _. ⌜ now (to .exit) ≡ firstOf (length (now (to .entry))) (now (s .entry)) ⌝ }
+    ensures { λ _. ⌜ now (to .exit) ≡ firstBytes (length (now (to .entry))) (now (s .entry)) ⌝ }
 {
     let mut i = 0;
     while i < to.len() {

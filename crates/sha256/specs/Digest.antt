@@ -8,7 +8,7 @@ use lib.ListN.{length, replicate}
 use Rattle.sha256.specs.Constants.{initial}
 use Rattle.sha256.specs.Message.{bytes, padTo, pad, N, M}
 use Rattle.sha256.specs.Rounds.{compress}
-use Rattle.sha256.specs.declared.Answer.{Answer}
+use Rattle.sha256.specs.declared.DigestAnswer.{DigestAnswer}
 use Rattle.sha256.specs.declared.hash.Hash.{Hash}
 
 -- 6.2.2: the hash value after the first i blocks of p, from the hash value s
@@ -32,25 +32,25 @@ longest = 4294967295
 abbrev pub longestOfAll : ℕ
 longestOfAll = 2305843009213693951
 
-abbrev pub given : List ℕ → Answer
+abbrev pub given : List ℕ → DigestAnswer
 given d = record { number = 0; bytes = d }
 
-abbrev pub refused : Answer
+abbrev pub refused : DigestAnswer
 refused = record { number = 12; bytes = replicate 32 0 }
 
 -- what a digest of the message m answers, where the message may have `most` bytes
-unfoldable pub answerUpTo : ℕ → List ℕ → Answer
+unfoldable pub answerUpTo : ℕ → List ℕ → DigestAnswer
 answerUpTo most m = cond (leb (length m) most) (given (digest m)) refused
 
-abbrev pub answer : List ℕ → Answer
+abbrev pub answer : List ℕ → DigestAnswer
 answer m = answerUpTo longest m
 
 -- the same where k blocks before m have already led to the hash value s
-unfoldable pub afterUpTo : ℕ → Hash → ℕ → List ℕ → Answer
+unfoldable pub afterUpTo : ℕ → Hash → ℕ → List ℕ → DigestAnswer
 afterUpTo most s k m =
     cond (leb (64 * k + length m) most) (given (toBytes (hashed s (padTo (64 * k + length m) m) (N (length m))))) refused
 
-abbrev pub answerAfter : Hash → ℕ → List ℕ → Answer
+abbrev pub answerAfter : Hash → ℕ → List ℕ → DigestAnswer
 answerAfter s k m = afterUpTo longest s k m
 
 -- The hash value after the k whole blocks p is all that the rest of a message needs of them. Proved in proofs/Pieces.antt.

@@ -19,7 +19,7 @@ use message::copy_block;
 use output::to_bytes;
 
 // The digest with the number 0, or a refusal's number and zeros.
-pub struct Answer {
+pub struct DigestAnswer {
     pub number: u32,
     pub bytes: [u8; 32],
 }
@@ -83,18 +83,18 @@ fn hash_rest(hash: Hash, first: &[u8], second: &[u8], n: usize) -> Hash
 
 // The digest of a message of at most most bytes whose first k blocks led to this hash value and whose
 // rest is first and then second.
-fn finish(hash: Hash, k: usize, first: &[u8], second: &[u8], most: usize) -> Answer
+fn finish(hash: Hash, k: usize, first: &[u8], second: &[u8], most: usize) -> DigestAnswer
     requires { ⌜ most ≤ longestOfAll ⌝ }
     ensures { λ r. ⌜ r ≡ afterUpTo most hash k (now (first .entry) ++ now (second .entry)) ⌝ }
 {
     if fits(k, first.len(), second.len(), most) {
         let n = 64 * k + (first.len() + second.len());
-        Answer {
+        DigestAnswer {
             number: 0,
             bytes: to_bytes(hash_rest(hash, first, second, n)),
         }
     } else {
-        Answer {
+        DigestAnswer {
             number: 12,
             bytes: [0; 32],
         }
@@ -102,14 +102,14 @@ fn finish(hash: Hash, k: usize, first: &[u8], second: &[u8], most: usize) -> Ans
 }
 
 // The same with the rest in one piece: the end of a message that comes in pieces (Hash::blocks).
-pub fn digest_after(hash: Hash, k: usize, rest: &[u8]) -> Answer
+pub fn digest_after(hash: Hash, k: usize, rest: &[u8]) -> DigestAnswer
     ensures { λ r. ⌜ r ≡ answerAfter hash k (now (rest .entry)) ⌝ }
 {
     finish(hash, k, rest, b"", LONGEST)
 }
 
 // The digest of first and then second, where they lie.
-pub fn digest_of_two(first: &[u8], second: &[u8]) -> Answer
+pub fn digest_of_two(first: &[u8], second: &[u8]) -> DigestAnswer
     ensures { λ r. ⌜ r ≡ answer (now (first .entry) ++ now (second .entry)) ⌝ }
 {
     finish(Hash::new(), 0, first, second, LONGEST)
@@ -117,13 +117,13 @@ pub fn digest_of_two(first: &[u8], second: &[u8]) -> Answer
 
 // The same where only FIPS bounds the length. An image's digest needs it: with the header, a firmware
 // of 2^32 - 1 bytes is a message longer than a lent slice may be.
-pub fn long_digest_of_two(first: &[u8], second: &[u8]) -> Answer
+pub fn long_digest_of_two(first: &[u8], second: &[u8]) -> DigestAnswer
     ensures { λ r. ⌜ r ≡ answerUpTo longestOfAll (now (first .entry) ++ now (second .entry)) ⌝ }
 {
     finish(Hash::new(), 0, first, second, LONGEST_OF_ALL)
 }
 
-pub fn digest(message: &[u8]) -> Answer
+pub fn digest(message: &[u8]) -> DigestAnswer
     ensures { λ r. ⌜ r ≡ answer (now (message .entry)) ⌝ }
 {
     digest_of_two(message, b"")

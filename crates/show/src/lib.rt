@@ -1,10 +1,10 @@
 // What the programs print of an answer, each but `field` with a line end. No contract can say what is
 // written, so these have none beyond safety; stored output and tests/command hold them.
 use libc::STDOUT_FILENO;
-use sha256::Answer;
+use sha256::DigestAnswer;
 
 // A digest as 64 hexadecimal digits, or its refusal.
-pub fn digest(a: Answer) {
+pub fn digest(a: DigestAnswer) {
     let number = a.number;
     if number != 0 {
         refusal(number);

@@ -9,7 +9,7 @@ use lib.ListN.{length, take, replicate, length-append, length-replicate}
 use lib.Seq.{take-all}
 use borrow.Author.Tests.{ne-eqb}
 use Rattle.sha256.specs.Digest.{longest, answer}
-use Rattle.sha256.specs.declared.Answer.{Answer}
+use Rattle.sha256.specs.declared.DigestAnswer.{DigestAnswer}
 use Rattle.sha256.proofs.Answers as D
 use Rattle.sha256.proofs.Answers.{short-enough}
 use Rattle.writer.specs.Layout.{tagBytes, coveredPart, digestToSign, written}
@@ -30,7 +30,7 @@ module _ (fields : Fields) (firmware custom hint : List ℕ) where
 
     -- the digest that the code makes
     pub answer-is :
-        (r : Answer) →
+        (r : DigestAnswer) →
         Accepted firmware custom →
         r ≡ answer (take (70 + length custom) b′ ++ firmware) →
         r ≡ record { number = 0; bytes = digestToSign fields firmware custom hint }
@@ -46,7 +46,7 @@ module _ (fields : Fields) (firmware custom hint : List ℕ) where
 
   pub signs :
       fieldsCheck firmware custom ≡ 0 →
-      _≡_ {A = Answer} (record { number = 0; bytes = digestToSign fields firmware custom hint }) (toSign fields firmware custom hint)
+      _≡_ {A = DigestAnswer} (record { number = 0; bytes = digestToSign fields firmware custom hint }) (toSign fields firmware custom hint)
   unfolding toSign
   signs e = simp e
 
@@ -54,7 +54,7 @@ module _ (fields : Fields) (firmware custom hint : List ℕ) where
       (n : ℕ) →
       n ≡ fieldsCheck firmware custom →
       (n ≡ 0 → ⊥) →
-      _≡_ {A = Answer} (record { number = n; bytes = replicate 32 0 }) (toSign fields firmware custom hint)
+      _≡_ {A = DigestAnswer} (record { number = n; bytes = replicate 32 0 }) (toSign fields firmware custom hint)
   unfolding toSign
   refuses n e q = rw (← e) (simp (ne-eqb _ _ q))
 

@@ -4,8 +4,8 @@ use mathlib.Core.Bool.{cond}
 use mathlib.Core.List.{List, [], _∷_}
 use lib.Dec.{ltb, eqb}
 use lib.ListN.{length, replicate}
-use Rattle.header.specs.Checks.{firstOf}
-use Rattle.sha256.specs.declared.Answer.{Answer}
+use Rattle.header.specs.Checks.{firstRefusal}
+use Rattle.sha256.specs.declared.DigestAnswer.{DigestAnswer}
 use Rattle.writer.specs.Custom.{customCheck}
 use Rattle.writer.specs.Layout.{digestToSign, written}
 use Rattle.writer.specs.declared.Fields.{Fields}
@@ -18,10 +18,10 @@ firmwareCheck firmware = cond (eqb (length firmware) 0) 12 (cond (ltb 4294967039
 
 -- what the first call refuses
 unfoldable pub fieldsCheck : List ℕ → List ℕ → ℕ
-fieldsCheck firmware custom = firstOf (firmwareCheck firmware ∷ customCheck custom ∷ [])
+fieldsCheck firmware custom = firstRefusal (firmwareCheck firmware ∷ customCheck custom ∷ [])
 
 -- what it answers: the digest to be signed, or the refusal's number and zeros
-unfoldable pub toSign : Fields → List ℕ → List ℕ → List ℕ → Answer
+unfoldable pub toSign : Fields → List ℕ → List ℕ → List ℕ → DigestAnswer
 toSign fields firmware custom hint =
     record {
       number = fieldsCheck firmware custom;
@@ -30,7 +30,7 @@ toSign fields firmware custom hint =
 
 -- what the second call refuses, and answers
 unfoldable pub writeCheck : List ℕ → List ℕ → List ℕ → ℕ
-writeCheck buffer firmware custom = firstOf (bufferCheck buffer ∷ fieldsCheck firmware custom ∷ [])
+writeCheck buffer firmware custom = firstRefusal (bufferCheck buffer ∷ fieldsCheck firmware custom ∷ [])
 
 -- the buffer after it: the header, or as it was
 unfoldable pub bufferAfter : List ℕ → Fields → List ℕ → List ℕ → List ℕ → List ℕ → List ℕ

@@ -17,7 +17,7 @@ use pieces::put_number;
 use pieces::put_number_tag;
 use pieces::put_padding;
 use pieces::put_tag;
-use sha256::Answer;
+use sha256::DigestAnswer;
 
 // The numbers that a header holds beside the firmware's size.
 #[repr(C)]
@@ -60,12 +60,17 @@ fn put_rest(buffer: &mut [u8], at: usize, digest: &[u8; 32], signature: &[u8; 64
 }
 
 // The first call: the digest to be signed; or 12, 26 or 27.
-pub fn digest_to_sign(fields: Fields, firmware: &[u8], custom: &[u8], hint: &[u8; 32]) -> Answer
+pub fn digest_to_sign(
+    fields: Fields,
+    firmware: &[u8],
+    custom: &[u8],
+    hint: &[u8; 32],
+) -> DigestAnswer
     ensures { λ r. ⌜ r ≡ toSign fields (now (firmware .entry)) (now (custom .entry)) (now (hint .entry)) ⌝ }
 {
     let number = check_fields(firmware, custom);
     if number != 0 {
-        return Answer {
+        return DigestAnswer {
             number,
             bytes: [0; 32],
         };

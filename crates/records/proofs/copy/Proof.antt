@@ -7,23 +7,23 @@ use borrow.Author.Needs.{needs}
 use lib.ListN.{length, take, set, length-set}
 use lib.Seq.{take-all, take-suc-set}
 use Rattle.header.specs.Numbers.{byteAt}
-use Rattle.records.specs.Records.{firstOf}
+use Rattle.records.specs.Records.{firstBytes}
 use Rattle.records.proofs.copy.Statement.{statement}
 use Rattle.records.proofs.copy.Tie as tie
 
-turn : (s to : List ℕ) (i : ℕ) → i < length to → take i to ≡ firstOf i s
-    → take (i + 1) (set to i (byteAt s i)) ≡ firstOf (i + 1) s
-unfolding firstOf
+turn : (s to : List ℕ) (i : ℕ) → i < length to → take i to ≡ firstBytes i s
+    → take (i + 1) (set to i (byteAt s i)) ≡ firstBytes (i + 1) s
+unfolding firstBytes
 turn s to i h e = rw (add-one, take-suc-set to i (byteAt s i) h, e)
 
 abbrev Inv-loop : tie.InvT-loop
-Inv-loop s to₀ i₀ to i = (i ≤ length to₀) × (length to ≡ length to₀) × (take i to ≡ firstOf i s)
+Inv-loop s to₀ i₀ to i = (i ≤ length to₀) × (length to ≡ length to₀) × (take i to ≡ firstBytes i s)
 
 abbrev μ-loop : tie.MeasureT-loop
 μ-loop s to₀ i₀ to i = length to₀ - i
 
 loop-holds : tie.Need-loop-holds Inv-loop μ-loop
-unfolding firstOf
+unfolding firstBytes
 loop-holds c = (omega arith, refl, refl)
 
 loop-again : tie.Need-loop-again Inv-loop μ-loop
@@ -37,7 +37,7 @@ returns c =
     let l = c .before in
     let a = l .before .before .before .args in
     let e : l .loop .i ≡ length (a .to .now) = omega arith in
-    sym (take-all (l .loop .i) (l .loop .to) (omega arith)) ∙ l .loop .inv .2 ∙ ap (λ n. firstOf n (a .s .now)) e
+    sym (take-all (l .loop .i) (l .loop .to) (omega arith)) ∙ l .loop .inv .2 ∙ ap (λ n. firstBytes n (a .s .now)) e
 
 pub copy-spec : {M : Type 1} → statement M
 copy-spec =

@@ -4,7 +4,7 @@ use native.Mathlib.Omega.{arith}
 use lib.ListN.{length}
 use lib.Seq.{length-take-le}
 use borrow.Author.Needs.{needs}
-use Rattle.sha256.specs.declared.Answer.{Answer}
+use Rattle.sha256.specs.declared.DigestAnswer.{DigestAnswer}
 use Rattle.writer.specs.Writer.{writeCheck}
 use Rattle.writer.proofs.Accepted.{Accepted, accepted, refused-buffer, refused-fields}
 use Rattle.writer.proofs.Whole.{answer-is, kept, filled}
@@ -62,7 +62,7 @@ returns-3 c =
     let m = answer-is _ _ _ _ _ _ (p .put-covered .ensures .1) (p .put-covered .ensures .0) _ (passes e) (d .digest-of-two .ensures) in (
       sym w,
       filled _ _ _ _ (a .signature .now) _ _ _ _ w b (passes e .custom-ok .size) (p .put-covered .ensures .1) (r .put-rest .ensures .1 .0)
-          (r .put-rest .ensures .1 .1) (ap (λ (r : Answer). r .bytes) m) (p .put-covered .ensures .0) (r .put-rest .ensures .0),
+          (r .put-rest .ensures .1 .1) (ap (λ (r : DigestAnswer). r .bytes) m) (p .put-covered .ensures .0) (r .put-rest .ensures .0),
     )
 
 pub write-header-spec : {M : Type 1} → statement M

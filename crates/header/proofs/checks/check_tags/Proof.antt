@@ -4,7 +4,7 @@ use mathlib.Core.Path.{_≡_, sym, _∙_}
 use native.Mathlib.Omega.{arith}
 use borrow.Author.Needs.{needs}
 use borrow.Author.Tests.{eq-eqb, ne-eqb}
-use Rattle.header.specs.Checks.{firstOf, walkCheck, tagsCheck}
+use Rattle.header.specs.Checks.{firstRefusal, walkCheck, tagsCheck}
 use Rattle.header.specs.Seen.{firstSeen}
 use Rattle.header.specs.Walk.{walk}
 use Rattle.header.proofs.OneWalk.{checked, all-checked, checked-stop, checked-padding, checked-tag}
@@ -16,7 +16,7 @@ use Rattle.header.proofs.checks.check_tags.Tie as tie
 abbrev Inv-loop : tie.InvT-loop
 Inv-loop header seen₀ p₀ seen p =
     let w = walk header 256 8 in
-    checked seen (walk header 256 p) ≡ firstOf (walkCheck (w .number) ∷ tagsCheck (w .tags) ∷ [])
+    checked seen (walk header 256 p) ≡ firstRefusal (walkCheck (w .number) ∷ tagsCheck (w .tags) ∷ [])
 
 abbrev μ-loop : tie.MeasureT-loop
 μ-loop header seen₀ p₀ seen p = 256 - p
@@ -29,7 +29,7 @@ stopped :
     (c : tie.After-number Inv-loop μ-loop) →
     let l = c .before .before .before in
     let w = walk (l .before .before .args .header .now) 256 8 in
-    firstOf (walkCheck (c .number .given .0 .0) ∷ firstSeen (l .loop .seen) ∷ []) ≡ firstOf (walkCheck (w .number) ∷ tagsCheck (w .tags) ∷ [])
+    firstRefusal (walkCheck (c .number .given .0 .0) ∷ firstSeen (l .loop .seen) ∷ []) ≡ firstRefusal (walkCheck (w .number) ∷ tagsCheck (w .tags) ∷ [])
 stopped c =
     let s = c .before .before in
     sym (checked-stop _ _ (s .before .loop .seen) (sym (s .walk-step .ensures) ∙ c .number .given .1)) ∙ s .before .loop .inv
@@ -38,7 +38,7 @@ returns : tie.Need-returns Inv-loop μ-loop
 returns c = rw (eq-eqb _ _ (c .if1 .taken)) at (stopped (c .before .before))
 
 returns-2 : tie.Need-returns-2 Inv-loop μ-loop
-returns-2 c = c .first-of .ensures ∙ (rw (ne-eqb _ _ (c .before .if1 .left), first-one) at (stopped (c .before .before .before)))
+returns-2 c = c .first-seen .ensures ∙ (rw (ne-eqb _ _ (c .before .if1 .left), first-one) at (stopped (c .before .before .before)))
 
 loop-less : tie.Need-loop-less Inv-loop μ-loop
 loop-less c = omega (arith, on _ _ _ (sym (c .before .before .before .walk-step .ensures) ∙ c .before .next .given .1))

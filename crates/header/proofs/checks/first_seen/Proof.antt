@@ -1,8 +1,8 @@
 use Rattle.header.specs.Seen.{firstSeen}
 use Rattle.header.proofs.Refusals.{first-one}
 use Rattle.compare.proofs.Tests.{tests}
-use Rattle.header.proofs.checks.first_of.Statement.{statement}
-use Rattle.header.proofs.checks.first_of.Tie as tie
+use Rattle.header.proofs.checks.first_seen.Statement.{statement}
+use Rattle.header.proofs.checks.first_seen.Tie as tie
 
 returns : tie.Need-returns
 unfolding firstSeen
@@ -24,6 +24,6 @@ returns-5 : tie.Need-returns-5
 unfolding firstSeen
 returns-5 c = search (tests, first-one)
 
-pub first-of-spec : {M : Type 1} → statement M
-first-of-spec =
+pub first-seen-spec : {M : Type 1} → statement M
+first-seen-spec =
     tie.close (tie.spec returns returns-2 returns-3 returns-4 returns-5)
