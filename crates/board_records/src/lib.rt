@@ -8,8 +8,8 @@ ghost use Rattle.header.specs.Numbers.{numberAt};
 ghost use Rattle.board_records.specs.Boards.{geometryIn, bootSigned, updateSigned};
 ghost use Rattle.board_records.specs.Cases.{nameIn, headIn, headEnd, flashIn, flashLength, loaded, restOf};
 use flash::Geometry;
+use header::byte_at;
 use header::u32_at;
-use records::byte_at;
 use records::copy;
 use records::part;
 

@@ -1,8 +1,8 @@
 // What stands in a record of the input.
 ghost use Prim.Native.Nat.{_≤_, _<_};
 use flash::Geometry;
+use header::byte_at;
 use header::u16_at;
-use records::byte_at;
 use records::copy;
 use records::part;
 use records::u64_at;

@@ -1,14 +1,15 @@
 -- Laws of little-endian numbers.
 -- Assumes nothing.
-use Prim.Native.Nat.{ℕ, zero, suc, _+_, _-_, _*_, _<_, _≤_}
+use Prim.Native.Nat.{ℕ, zero, suc, _+_, _-_, _*_, _%_, _^_, _<_, _≤_}
 use mathlib.Core.Bool.{true, false}
 use mathlib.Core.List.{List}
 use mathlib.Core.Path.{_≡_, refl}
+use native.Mathlib.Nat.{zero-add, suc-add, add-zero, mul-assoc, pow-succ'}
 use native.Mathlib.Omega.{arith}
 use lib.Dec.{ltb}
 use lib.ListN.{length, List·getD-eq-default}
 use borrow.Author.Tests.{lt-ltb, le-ltb}
-use Rattle.header.specs.Numbers.{numberAt}
+use Rattle.header.specs.Numbers.{byteAt, numberAt}
 
 -- a number past the end is 0
 pub past : (n : ℕ) (s : List ℕ) (p : ℕ) → length s ≤ p → numberAt n s p ≡ 0
@@ -16,12 +17,17 @@ unfolding numberAt
 past zero s p h = refl
 past (suc n) s p h = omega (arith, List·getD-eq-default s 0 h, past n s (p + 1) (omega arith))
 
--- the number of four bytes is made of two of two
-pub two-halves : (s : List ℕ) (p : ℕ) → numberAt 4 s p ≡ numberAt 2 s p + 65536 * numberAt 2 s (p + 2)
+-- the number of m + n bytes is made of the first m and the n behind them
+pub two-parts : (m n : ℕ) (s : List ℕ) (p : ℕ) → numberAt (m + n) s p ≡ numberAt m s p + 256 ^ m * numberAt n s (p + m)
 unfolding numberAt
-two-halves s p =
-    let e : p + 1 + 1 ≡ p + 2 = omega arith in
-    rw e (omega arith)
+two-parts zero n s p = rw (zero-add n, add-zero p) (omega arith)
+two-parts (suc m) n s p =
+    let e : p + 1 + m ≡ p + suc m = omega arith in
+    rw (suc-add, pow-succ', mul-assoc) (omega (arith, rw e at (two-parts m n s (p + 1))))
+
+pub low-byte : (s : List ℕ) (p : ℕ) → byteAt s p < 256 → numberAt 2 s p % 256 ≡ byteAt s p
+unfolding numberAt
+low-byte s p l = omega arith
 
 -- room for n bytes from place p up to place e, as the code measures it
 pub too-narrow : (e p n : ℕ) → p ≤ e → e - p < n → ltb e (p + n) ≡ true

@@ -5,7 +5,7 @@ use mathlib.Core.Bool.{Bool, true, false, cond}
 use mathlib.Core.List.{List, [], _∷_}
 use mathlib.Core.Path.{_≡_, refl, ap, _∙_}
 use lib.Dec.{eqb}
-use Rattle.header.specs.Checks.{firstRefusal, walkCheck, mandatoryCheck, tagsCheck}
+use Rattle.header.specs.Checks.{firstRefusal, walkCheck, mandatoryCheck, Mandatory, versionTag, timestampTag, digestTag, signatureTag, firmwareTag, tagsCheck}
 use Rattle.header.specs.Lookup.{ofKind}
 use Rattle.header.specs.Seen.{numberAfter, seenAfter, firstSeen}
 use Rattle.header.specs.Walk.{stepAt, Walk, onStep, walk}
@@ -16,37 +16,37 @@ use Rattle.header.specs.declared.tags.WalkStep.{WalkStep}
 use Rattle.compare.proofs.Tests.{by-test}
 use Rattle.header.proofs.Walk.{walk-step}
 
--- the number of a type of length n after some tags
-abbrev numbersAfter : ℕ → ℕ → ℕ → List Tag → ℕ
-numbersAfter k n x [] = x
-numbersAfter k n x (t ∷ ts) = numbersAfter k n (numberAfter x (eqb (t .kind) k) (eqb (t .len) n)) ts
+-- a type's number after some tags
+abbrev numbersAfter : Mandatory → ℕ → List Tag → ℕ
+numbersAfter m x [] = x
+numbersAfter m x (t ∷ ts) = numbersAfter m (numberAfter m x t) ts
 
-module _ (k n : ℕ) where
-  repeated : (ts : List Tag) → numbersAfter k n 15 ts ≡ 15
+module _ (m : Mandatory) where
+  repeated : (ts : List Tag) → numbersAfter m 15 ts ≡ 15
   repeated [] = refl
   repeated (t ∷ ts) =
-      by-test (λ (x : ℕ). numbersAfter k n x ts ≡ 15) (eqb (t .kind) k) (λ b. repeated ts) (λ b. repeated ts)
+      by-test (λ (x : ℕ). numbersAfter m x ts ≡ 15) (eqb (t .kind) (m .kind)) (λ b. repeated ts) (λ b. repeated ts)
 
   once :
       (x : ℕ) (t : Tag) (ts : List Tag) →
       eqb x 14 ≡ false →
-      x ≡ cond (eqb (t .len) n) 0 16 →
-      numbersAfter k n x ts ≡ mandatoryCheck n (t ∷ ofKind k ts)
+      x ≡ cond (eqb (t .len) (m .len)) 0 16 →
+      numbersAfter m x ts ≡ mandatoryCheck (m .len) (t ∷ ofKind (m .kind) ts)
   once x t [] d e = e
-  once x t (u ∷ ts) d e = go (eqb (u .kind) k) refl (once x t ts d e)
+  once x t (u ∷ ts) d e = go (eqb (u .kind) (m .kind)) refl (once x t ts d e)
     where
       go :
           (b : Bool) →
-          eqb (u .kind) k ≡ b →
-          numbersAfter k n x ts ≡ mandatoryCheck n (t ∷ ofKind k ts) →
-          numbersAfter k n x (u ∷ ts) ≡ mandatoryCheck n (t ∷ ofKind k (u ∷ ts))
+          eqb (u .kind) (m .kind) ≡ b →
+          numbersAfter m x ts ≡ mandatoryCheck (m .len) (t ∷ ofKind (m .kind) ts) →
+          numbersAfter m x (u ∷ ts) ≡ mandatoryCheck (m .len) (t ∷ ofKind (m .kind) (u ∷ ts))
       go true q ih = rw (q, d) (repeated ts)
       go false q ih = rw q ih
 
   -- beginning with 14
-  seen-of : (ts : List Tag) → numbersAfter k n 14 ts ≡ mandatoryCheck n (ofKind k ts)
+  seen-of : (ts : List Tag) → numbersAfter m 14 ts ≡ mandatoryCheck (m .len) (ofKind (m .kind) ts)
   seen-of [] = refl
-  seen-of (t ∷ ts) = go (eqb (t .kind) k) refl (seen-of ts)
+  seen-of (t ∷ ts) = go (eqb (t .kind) (m .kind)) refl (seen-of ts)
     where
       fits : (b : Bool) → eqb (cond b 0 16) 14 ≡ false
       fits true = refl
@@ -54,10 +54,10 @@ module _ (k n : ℕ) where
 
       go :
           (b : Bool) →
-          eqb (t .kind) k ≡ b →
-          numbersAfter k n 14 ts ≡ mandatoryCheck n (ofKind k ts) →
-          numbersAfter k n 14 (t ∷ ts) ≡ mandatoryCheck n (ofKind k (t ∷ ts))
-      go true q ih = rw q (once (cond (eqb (t .len) n) 0 16) t ts (fits (eqb (t .len) n)) refl)
+          eqb (t .kind) (m .kind) ≡ b →
+          numbersAfter m 14 ts ≡ mandatoryCheck (m .len) (ofKind (m .kind) ts) →
+          numbersAfter m 14 (t ∷ ts) ≡ mandatoryCheck (m .len) (ofKind (m .kind) (t ∷ ts))
+      go true q ih = rw q (once (cond (eqb (t .len) (m .len)) 0 16) t ts (fits (eqb (t .len) (m .len))) refl)
       go false q ih = rw q ih
 
 abbrev pub seenAll : Seen → List Tag → Seen
@@ -70,11 +70,11 @@ nothing = record { version = 14; timestamp = 14; digest = 14; signature = 14; «
 each : (s : Seen) (ts : List Tag) →
     seenAll s ts ≡
     record {
-      version = numbersAfter 0x0001 4 (s .version) ts;
-      timestamp = numbersAfter 0x0002 8 (s .timestamp) ts;
-      digest = numbersAfter 0x0003 32 (s .digest) ts;
-      signature = numbersAfter 0x0020 64 (s .signature) ts;
-      «firmware_type» = numbersAfter 0x0030 2 (s .«firmware_type») ts;
+      version = numbersAfter versionTag (s .version) ts;
+      timestamp = numbersAfter timestampTag (s .timestamp) ts;
+      digest = numbersAfter digestTag (s .digest) ts;
+      signature = numbersAfter signatureTag (s .signature) ts;
+      «firmware_type» = numbersAfter firmwareTag (s .«firmware_type») ts;
     }
 each s [] = refl
 each s (t ∷ ts) = each (seenAfter s t) ts
@@ -88,11 +88,11 @@ unfolding firstSeen tagsCheck
 all-checked w =
     rw (
       each nothing (w .tags),
-      seen-of 0x0001 4 (w .tags),
-      seen-of 0x0002 8 (w .tags),
-      seen-of 0x0003 32 (w .tags),
-      seen-of 0x0020 64 (w .tags),
-      seen-of 0x0030 2 (w .tags),
+      seen-of versionTag (w .tags),
+      seen-of timestampTag (w .tags),
+      seen-of digestTag (w .tags),
+      seen-of signatureTag (w .tags),
+      seen-of firmwareTag (w .tags),
     )
 
 -- the ways in which the checks go on from a step

@@ -1,6 +1,6 @@
 -- The walk ends and stays within its bounds, and a lookup agrees with the list of tags, on every header.
 -- Assumes nothing.
-use Prim.Native.Nat.{ℕ, _-_, _%_, _<_}
+use Prim.Native.Nat.{ℕ, _-_, _%_}
 use mathlib.Core.Bool.{cond}
 use mathlib.Core.List.{List, [], _∷_, List·Memᴰ, List·Memᴰ·cases-cons, List·Memᴰ·not-nil}
 use mathlib.Core.Logic.{_⊎_, ⊎-elim}
@@ -9,12 +9,12 @@ use native.Mathlib.Omega.{arith}
 use lib.Dec.{eqb}
 use borrow.Author.Tests.{eqb-true}
 use Rattle.header.specs.Lookup.{firstIn, lookup, ofKind, LookupsAgree}
-use Rattle.header.specs.Numbers.{byteAt, numberAt}
 use Rattle.header.specs.Walk.{Walk, walk, WalksStay}
 use Rattle.header.specs.declared.tags.Lookup.the-variants.{Found, Refused}
 use Rattle.header.specs.declared.tags.Lookup.{Lookup}
 use Rattle.header.specs.declared.tags.Tag.{Tag}
 use Rattle.header.proofs.Lookups.{not-found, later, long-enough, looked-up}
+use Rattle.header.proofs.Numbers.{low-byte}
 use Rattle.compare.proofs.Tests.{by-test}
 use Rattle.header.proofs.Walk.{Good, walk-step, walk-ind}
 
@@ -57,10 +57,6 @@ typed k (u ∷ ts) n {t} =
     by-test (λ (r : Lookup). r ≡ Found t → t .kind ≡ k) (eqb (u .kind) k)
     (λ b h. let same : u ≡ t = cc in sym (ap (λ (t : Tag). t .kind) same) ∙ eqb-true _ _ b)
     (λ b h. typed k ts n h)
-
-low-byte : (h : List ℕ) (p : ℕ) → byteAt h p < 256 → numberAt 2 h p % 256 ≡ byteAt h p
-unfolding numberAt
-low-byte h p l = omega arith
 
 pub agrees : LookupsAgree
 agrees h k =

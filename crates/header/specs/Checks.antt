@@ -45,17 +45,30 @@ mandatoryCheck n (t ∷ []) = cond (eqb (t .len) n) 0 16
 mandatoryCheck n (t ∷ (u ∷ ts)) = 15
 
 -- the mandatory types and their lengths
-abbrev pub mandatory : List (record { kind : ℕ; len : ℕ })
-mandatory =
-    record { kind = versionType; len = 4 }
-    ∷ record { kind = timestampType; len = 8 }
-    ∷ record { kind = digestType; len = 32 }
-    ∷ record { kind = signatureType; len = 64 }
-    ∷ record { kind = firmwareType; len = 2 }
-    ∷ []
+pub record Mandatory : Type 0 where
+  pub kind : ℕ
+  pub len : ℕ
+
+abbrev pub versionTag : Mandatory
+versionTag = record { kind = versionType; len = 4 }
+
+abbrev pub timestampTag : Mandatory
+timestampTag = record { kind = timestampType; len = 8 }
+
+abbrev pub digestTag : Mandatory
+digestTag = record { kind = digestType; len = 32 }
+
+abbrev pub signatureTag : Mandatory
+signatureTag = record { kind = signatureType; len = 64 }
+
+abbrev pub firmwareTag : Mandatory
+firmwareTag = record { kind = firmwareType; len = 2 }
+
+abbrev pub mandatory : List Mandatory
+mandatory = versionTag ∷ timestampTag ∷ digestTag ∷ signatureTag ∷ firmwareTag ∷ []
 
 unfoldable pub tagsCheck : List Tag → ℕ
-tagsCheck ts = firstRefusal (map (λ (m : record { kind : ℕ; len : ℕ }). mandatoryCheck (m .len) (ofKind (m .kind) ts)) mandatory)
+tagsCheck ts = firstRefusal (map (λ (m : Mandatory). mandatoryCheck (m .len) (ofKind (m .kind) ts)) mandatory)
 
 -- the number of the first check that an image's header fails, and 0 where it fails none
 unfoldable pub headerCheck : List ℕ → ℕ

@@ -43,12 +43,12 @@ struct Seen {
 }
 
 // A type's number after one more tag.
-fn after(number: u32, of_type: bool, of_length: bool) -> u32
-    ensures { λ r. ⌜ r ≡ numberAfter number «of_type» «of_length» ⌝ }
+fn after(number: u32, t: Tag, kind: u16, len: usize) -> u32
+    ensures { λ r. ⌜ r ≡ numberAfter (record { kind = kind; len = len }) number t ⌝ }
 {
-    if of_type {
+    if t.kind == kind {
         if number == 14 {
-            if of_length { 0 } else { 16 }
+            if t.len == len { 0 } else { 16 }
         } else {
             15
         }
@@ -61,11 +61,11 @@ fn seen_after(s: Seen, t: Tag) -> Seen
     ensures { λ r. ⌜ r ≡ seenAfter s t ⌝ }
 {
     Seen {
-        version: after(s.version, t.kind == VERSION, t.len == 4),
-        timestamp: after(s.timestamp, t.kind == TIMESTAMP, t.len == 8),
-        digest: after(s.digest, t.kind == DIGEST, t.len == 32),
-        signature: after(s.signature, t.kind == SIGNATURE, t.len == 64),
-        firmware_type: after(s.firmware_type, t.kind == FIRMWARE_TYPE, t.len == 2),
+        version: after(s.version, t, VERSION, 4),
+        timestamp: after(s.timestamp, t, TIMESTAMP, 8),
+        digest: after(s.digest, t, DIGEST, 32),
+        signature: after(s.signature, t, SIGNATURE, 64),
+        firmware_type: after(s.firmware_type, t, FIRMWARE_TYPE, 2),
     }
 }
 

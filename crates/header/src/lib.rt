@@ -9,6 +9,7 @@ ghost use Rattle.header.specs.Lookup.{lookup, viewOf, coveredOf};
 pub use checks::Version;
 pub use checks::check;
 pub use checks::version_of;
+pub use number::byte_at;
 pub use number::u16_at;
 pub use number::u32_at;
 pub use tags::Lookup;

@@ -2,7 +2,7 @@
 ghost use mathlib.Core.Path.{_≡_};
 ghost use Rattle.header.specs.Numbers.{byteAt, numberAt};
 
-pub(crate) fn byte_at(s: &[u8], p: usize) -> u8
+pub fn byte_at(s: &[u8], p: usize) -> u8
     ensures { λ r. ⌜ r ≡ byteAt (now (s .entry)) p ⌝ }
 {
     if p < s.len() { s[p] } else { 0 }

@@ -7,6 +7,7 @@ mod record;
 
 ghost use Prim.Native.Nat.{_≤_, _<_};
 use header::Lookup;
+use header::byte_at;
 use header::u16_at;
 use header::u32_at;
 use libc::STDIN_FILENO;
@@ -14,7 +15,6 @@ use libc::STDOUT_FILENO;
 use record::HEAD;
 use record::KEYS;
 use record::fields;
-use records::byte_at;
 use records::copy;
 use records::part;
 

@@ -11,9 +11,9 @@ use board_records::update_signed;
 use flash::Geometry;
 use flash::Step;
 use flash::apply_step;
+use header::byte_at;
 use libc::STDIN_FILENO;
 use loader::Answer;
-use records::byte_at;
 use records::part;
 use slots::Work;
 

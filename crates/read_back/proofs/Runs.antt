@@ -17,6 +17,7 @@ use Rattle.header.specs.declared.tags.Tag.{Tag}
 use Rattle.writer.specs.Custom.{named, tagsOf, wellFormed, customCheck}
 use Rattle.writer.specs.Layout.{leBytes, tagBytes}
 use Rattle.compare.proofs.Tests.{never, and-left}
+use Rattle.header.proofs.Numbers.{low-byte}
 use Rattle.header.proofs.Walk.{Good, walk-ind}
 use Rattle.writer.proofs.Accepted.{custom-accepted}
 use Rattle.writer.proofs.Run.{wellFormedFrom, gap, at-end}
@@ -86,10 +87,6 @@ module _ (s : List ℕ) (b : (p : ℕ) → byteAt s p < 256) where
   unfolding numberAt
   two-bytes p = omega (arith, b p, b (p + 1))
 
-  low-of : (p : ℕ) → numberAt 2 s p % 256 ≡ byteAt s p
-  unfolding numberAt
-  low-of p = omega (arith, b p)
-
   made-tag : (p : ℕ) (t : Tag) → Good s (length s) p t → t .at ≡ p + 4 → named (t .kind) ≡ false → Made (drop (t .at + t .len) s) → Made (drop p s)
   unfolding encode
   made-tag p t g a unnamed m =
@@ -104,7 +101,7 @@ module _ (s : List ℕ) (b : (p : ℕ) → byteAt s p < 256) where
       let ok : Allowed e =
       record {
         typed = g .typed;
-        unpadded = λ f. low (sym (low-of p) ∙ ap (λ (k : ℕ). k % 256) (sym kind) ∙ f);
+        unpadded = λ f. low (sym (low-byte s p (b p)) ∙ ap (λ (k : ℕ). k % 256) (sym kind) ∙ f);
         unnamed = unnamed;
         kind-fits = rw kind (two-bytes p);
         length-fits = rw (l, size) (two-bytes (p + 2));

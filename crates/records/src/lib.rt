@@ -2,15 +2,10 @@
 // reads as zeros, or as the empty part.
 ghost use mathlib.Core.Path.{_≡_};
 ghost use lib.ListN.{length};
-ghost use Rattle.header.specs.Numbers.{byteAt, numberAt};
+ghost use Rattle.header.specs.Numbers.{numberAt};
 ghost use Rattle.records.specs.Records.{partOf, firstBytes};
+use header::byte_at;
 use header::u32_at;
-
-pub fn byte_at(s: &[u8], p: usize) -> u8
-    ensures { λ r. ⌜ r ≡ byteAt (now (s .entry)) p ⌝ }
-{
-    if p < s.len() { s[p] } else { 0 }
-}
 
 // A little-endian number of eight bytes.
 pub fn u64_at(s: &[u8], p: usize) -> u64

@@ -5,10 +5,10 @@ use Rattle.header.proofs.checks.seen_after.Tie as tie
 returns : tie.Need-returns
 returns c =
     rw (
-      c .before .before .before .before .before .before .before .before .before .before .before .before .after .ensures,
-      c .before .before .before .before .before .before .before .before .before .after2 .ensures,
-      c .before .before .before .before .before .before .after3 .ensures,
-      c .before .before .before .after4 .ensures,
+      c .before .before .before .before .after .ensures,
+      c .before .before .before .after2 .ensures,
+      c .before .before .after3 .ensures,
+      c .before .after4 .ensures,
       c .after5 .ensures,
     )
 

@@ -1,13 +1,13 @@
 use native.Mathlib.Omega.{arith}
 use borrow.Author.Needs.{needs}
-use Rattle.header.proofs.Numbers.{past, two-halves}
+use Rattle.header.proofs.Numbers.{past, two-parts}
 use Rattle.header.proofs.number.u32_at.Statement.{statement}
 use Rattle.header.proofs.number.u32_at.Tie as tie
 
 returns : tie.Need-returns
 returns c =
     let a = c .before .before .before .before .args in
-    omega (arith, two-halves (a .s .now) (a .p))
+    omega (arith, two-parts 2 2 (a .s .now) (a .p))
 
 returns-2 : tie.Need-returns-2
 returns-2 c =
