@@ -18,16 +18,18 @@ headBytes kind n = leBytes 2 kind ++ leBytes 2 n
 unfoldable pub tagBytes : ℕ → List ℕ → List ℕ
 tagBytes kind content = headBytes kind (length content) ++ content
 
--- what the digest covers of the header: everything before the digest tag
-unfoldable pub coveredPart : Fields → List ℕ → List ℕ → List ℕ → List ℕ
-coveredPart fields firmware custom hint =
+-- the pieces at fixed places
+abbrev pub fixedPart : Fields → List ℕ → List ℕ
+fixedPart fields firmware =
     mark
     ++ leBytes 4 (length firmware)
     ++ tagBytes versionType (leBytes 4 (fields .version))
     ++ tagBytes timestampType (leBytes 8 (fields .timestamp))
     ++ tagBytes firmwareType (leBytes 2 (fields .«firmware_type»))
-    ++ custom
-    ++ tagBytes hintType hint
+
+-- what the digest covers of the header: everything before the digest tag
+unfoldable pub coveredPart : Fields → List ℕ → List ℕ → List ℕ → List ℕ
+coveredPart fields firmware custom hint = fixedPart fields firmware ++ custom ++ tagBytes hintType hint
 
 -- the 32 bytes to be signed
 unfoldable pub digestToSign : Fields → List ℕ → List ℕ → List ℕ → List ℕ

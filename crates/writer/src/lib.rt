@@ -8,7 +8,7 @@ ghost use mathlib.Core.List.{_++_};
 ghost use Prim.Native.Nat.{_+_, _-_, _≤_};
 ghost use lib.ListN.{length, replicate};
 ghost use Rattle.header.specs.Types.{digestType, signatureType};
-ghost use Rattle.writer.specs.Layout.{tagBytes, coveredPart};
+ghost use Rattle.writer.specs.Layout.{tagBytes, fixedPart, coveredPart};
 ghost use Rattle.writer.specs.Stored.{Stored};
 ghost use Rattle.writer.specs.Writer.{toSign, writeCheck, bufferAfter};
 use checks::check_fields;
@@ -27,11 +27,10 @@ pub struct Fields {
     pub firmware_type: u16,
 }
 
-// Stores what the digest covers.
-fn put_covered(buffer: &mut [u8], fields: Fields, firmware: &[u8], custom: &[u8], hint: &[u8; 32])
-    requires { ⌜ (length (now custom) ≤ 82) × (length (now buffer) ≡ 256) ⌝ }
-    ensures bytes { λ _. ⌜ Stored (now (buffer .entry)) 0 (coveredPart fields (now (firmware .entry)) (now (custom .entry)) (now (hint .entry))) (now (buffer .exit)) ⌝ }
-    ensures hint { λ _. ⌜ length (now (hint .entry)) ≡ 32 ⌝ }
+// Stores the mark, the firmware's size and the numbers.
+fn put_fixed(buffer: &mut [u8], fields: Fields, firmware: &[u8])
+    requires { ⌜ 34 ≤ length (now buffer) ⌝ }
+    ensures { λ _. ⌜ Stored (now (buffer .entry)) 0 (fixedPart fields (now (firmware .entry))) (now (buffer .exit)) ⌝ }
 {
     put(buffer, 0, b"WOLF");
     put_number(buffer, 4, 4, firmware.len() as u64);
@@ -44,6 +43,15 @@ fn put_covered(buffer: &mut [u8], fields: Fields, firmware: &[u8], custom: &[u8]
         2,
         fields.firmware_type as u64,
     );
+}
+
+// Stores what the digest covers.
+fn put_covered(buffer: &mut [u8], fields: Fields, firmware: &[u8], custom: &[u8], hint: &[u8; 32])
+    requires { ⌜ (length (now custom) ≤ 82) × (length (now buffer) ≡ 256) ⌝ }
+    ensures bytes { λ _. ⌜ Stored (now (buffer .entry)) 0 (coveredPart fields (now (firmware .entry)) (now (custom .entry)) (now (hint .entry))) (now (buffer .exit)) ⌝ }
+    ensures hint { λ _. ⌜ length (now (hint .entry)) ≡ 32 ⌝ }
+{
+    put_fixed(buffer, fields, firmware);
     put(buffer, 34, custom);
     put_tag(buffer, 34 + custom.len(), header::HINT, hint);
 }
