@@ -10,9 +10,9 @@ use borrow.Author.Tests.{eq-eqb, ne-eqb}
 use lib.Dec.{eqb}
 use lib.ListN.{length, take, drop, getD, replicate, length-replicate, getD-replicate, drop-of-length-le}
 use lib.Seq.{drop-cons, drop-drop, ext-getD}
-use Rattle.compare.specs.Compare.{same, all}
+use Rattle.compare.specs.Compare.{same, all, Exact}
 use Rattle.compare.proofs.Parts.{Splits, next, stop, after}
-use Rattle.compare.proofs.Sameness.{same-equal}
+use Rattle.compare.proofs.Sameness.{same-equal, same-self}
 
 all-split : (v k : ℕ) (l : List ℕ) → Splits (all v (take k l)) (all v (drop k l)) (all v l)
 unfolding all
@@ -59,6 +59,9 @@ all-same v (x ∷ l) = rw (all-same v l)
 
 pub all-only : (v : ℕ) (l : List ℕ) → all v l ≡ true → l ≡ replicate (length l) v
 all-only v l e = same-equal l (replicate (length l) v) (sym (all-same v l) ∙ e)
+
+pub exact : Exact
+exact = record { same-equal = same-equal; equal-same = same-self; all-only = all-only; only-all = all-replicate }
 
 pub all-at : (v : ℕ) (l : List ℕ) → all v l ≡ true → (i : ℕ) → i < length l → getD l i 0 ≡ v
 all-at v l e i h = ap (λ (m : List ℕ). getD m i 0) (all-only v l e) ∙ getD-replicate (length l) i v 0 h

@@ -4,7 +4,7 @@ use mathlib.Core.List.{List, [], _∷_}
 use lib.ListN.{getD}
 use Rattle.sha256.specs.declared.hash.Hash.{Hash}
 
--- 4.2.2; that they follow FIPS's rule, with primes and cube roots, is shown in the crate sha256_vectors
+-- 4.2.2; that they follow FIPS's rule, with primes and cube roots, is shown in the crate sha256_vectors (cube-roots)
 unfoldable pub constants : List ℕ
 constants =
     0x428a2f98 ∷ 0x71374491 ∷ 0xb5c0fbcf ∷ 0xe9b5dba5 ∷ 0x3956c25b ∷ 0x59f111f1 ∷ 0x923f82a4 ∷ 0xab1c5ed5
@@ -19,7 +19,7 @@ constants =
 abbrev pub K : ℕ → ℕ
 K t = getD constants t 0
 
--- 5.3.3
+-- 5.3.3; square-roots there
 abbrev pub initial : Hash
 initial =
     record { a = 0x6a09e667; b = 0xbb67ae85; c = 0x3c6ef372; d = 0xa54ff53a; e = 0x510e527f; f = 0x9b05688c; g = 0x1f83d9ab; h = 0x5be0cd19 }
