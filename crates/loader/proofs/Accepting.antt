@@ -42,45 +42,45 @@ AnswerAccepted g (A.Boot n) = Unit {0}
 AnswerAccepted g (A.Refused n) = Unit {0}
 
 or-else : (g : Geometry) (w : Work) (a : Answer) → DueAccepted g w → AnswerAccepted g a → AnswerAccepted g (orElse w a)
-or-else g (W.Due s) a h k = h
-or-else g W.Finished a h k = k
-or-else g (W.Refused n) a h k = tt
+or-else g (W.Due s) a h checks = h
+or-else g W.Finished a h checks = checks
+or-else g (W.Refused n) a h checks = tt
 
-module _ (k : Checks) (g : Geometry) (f : List ℕ) (ok : geometryCheck g (length f) ≡ 0) (a b : Bool) where
+module _ (checks : Checks) (g : Geometry) (f : List ℕ) (ok : geometryCheck g (length f) ≡ 0) (a b : Bool) where
   v : Valid g (length f)
   v = valid g (length f) ok
 
-  boot-or : (why : ℕ) → AnswerAccepted g (bootOr k g f a why)
+  boot-or : (why : ℕ) → AnswerAccepted g (bootOr checks g f a why)
   unfolding bootOr
-  boot-or why = by-test (AnswerAccepted g) (eqb (k .verdict (imageOf g f Boot) a) 0) (λ _. tt) (λ _. tt)
+  boot-or why = by-test (AnswerAccepted g) (eqb (checks .verdict (imageOf g f Boot) a) 0) (λ _. tt) (λ _. tt)
 
-  spending : AnswerAccepted g (spend k g f a)
+  spending : AnswerAccepted g (spend checks g f a)
   unfolding spend
-  spending = by-test (AnswerAccepted g) (eqb (k .verdict (imageOf g f Boot) a) 0) (λ _. state-accepted g f v Update 0x30) (λ _. state-accepted g f v Update 0x30)
+  spending = by-test (AnswerAccepted g) (eqb (checks .verdict (imageOf g f Boot) a) 0) (λ _. state-accepted g f v Update 0x30) (λ _. state-accepted g f v Update 0x30)
 
-  finishing : (t : ℕ) → AnswerAccepted g (finish k g f t a)
+  finishing : (t : ℕ) → AnswerAccepted g (finish checks g f t a)
   unfolding finish
-  finishing t = or-else g (renewalOf g f Boot t) (spend k g f a) (renewal-accepted g f v Boot t) spending
+  finishing t = or-else g (renewalOf g f Boot t) (spend checks g f a) (renewal-accepted g f v Boot t) spending
 
-  swaps : (t : ℕ) → AnswerAccepted g (stagedDecision k g f t a b)
+  swaps : (t : ℕ) → AnswerAccepted g (stagedDecision checks g f t a b)
   swaps t = go (progressOf fs) refl
     where
       fs : List ℕ
       fs = flags (g .count) (trailerOf g f Update)
 
-      go : (r : Progress) → progressOf fs ≡ r → AnswerAccepted g (stagedDecision k g f t a b)
-      go (P.Refused n) e = rw (at-refusal k g f ok t a b n e) tt
-      go (P.At p) e = rw (at-progress k g f ok t a b p e)
-          (by-test (AnswerAccepted g) (eqb (why k g f b p) 0)
-          (λ _. or-else g (exchangeOf g f p) (finish k g f t a) (exchange-accepted g f v p) (finishing t)) (λ _. boot-or (why k g f b p)))
+      go : (r : Progress) → progressOf fs ≡ r → AnswerAccepted g (stagedDecision checks g f t a b)
+      go (P.Refused n) e = rw (at-refusal checks g f ok t a b n e) tt
+      go (P.At p) e = rw (at-progress checks g f ok t a b p e)
+          (by-test (AnswerAccepted g) (eqb (why checks g f b p) 0)
+          (λ _. or-else g (exchangeOf g f p) (finish checks g f t a) (exchange-accepted g f v p) (finishing t)) (λ _. boot-or (why checks g f b p)))
 
-  goes-back : AnswerAccepted g (goBack k g f a b)
+  goes-back : AnswerAccepted g (goBack checks g f a b)
   unfolding goBack
-  goes-back = by-test (AnswerAccepted g) (eqb (k .verdict (imageOf g f Update) b) 0)
-      (λ _. or-else g (renewalOf g f Update updating) (bootOr k g f a 0) (renewal-accepted g f v Update updating) (boot-or 0))
-      (λ _. boot-or (k .verdict (imageOf g f Update) b))
+  goes-back = by-test (AnswerAccepted g) (eqb (checks .verdict (imageOf g f Update) b) 0)
+      (λ _. or-else g (renewalOf g f Update updating) (bootOr checks g f a 0) (renewal-accepted g f v Update updating) (boot-or 0))
+      (λ _. boot-or (checks .verdict (imageOf g f Update) b))
 
-  pub decision-accepted : AnswerAccepted g (decision k g f a b)
+  pub decision-accepted : AnswerAccepted g (decision checks g f a b)
   unfolding decision
   decision-accepted = by-test (AnswerAccepted g) (staged g f) (λ _. swaps testing)
       (λ _. by-test (AnswerAccepted g) (onTrial g f) (λ _. goes-back) (λ _. boot-or 0))
@@ -103,7 +103,7 @@ module _ (g : Geometry) (f : List ℕ) where
   -- what is answered where the geometry is not refused, or else a refusal
   by-geometry : {B : Type 0} (P : B → Type 0) {x y : B} → (geometryCheck g (length f) ≡ 0 → P x) → P y
       → P (cond (eqb (geometryCheck g (length f)) 0) x y)
-  by-geometry P h k = by-test P (eqb (geometryCheck g (length f)) 0) (λ e. h (eqb-true _ _ e)) (λ _. k)
+  by-geometry P h checks = by-test P (eqb (geometryCheck g (length f)) 0) (λ e. h (eqb-true _ _ e)) (λ _. checks)
 
   abbrev Checked : Answer → Type 0
   Checked x = (s : Step) → ((x ≡ A.Step s → stepCheck g (length f) s ≡ 0) × (x ≡ A.LastStep s → stepCheck g (length f) s ≡ 0))
@@ -117,9 +117,9 @@ module _ (g : Geometry) (f : List ℕ) where
   refused : (n : ℕ) → Checked (A.Refused n)
   refused n s = (λ q. absurd (let z : _≡_ {A = ℕ} 0 1 = cc in omega arith), λ q. absurd (let z : _≡_ {A = ℕ} 0 1 = cc in omega arith))
 
-  next : (k : Checks) (a b : Bool) → Checked (nextStep k g f a b)
+  next : (checks : Checks) (a b : Bool) → Checked (nextStep checks g f a b)
   unfolding nextStep
-  next k a b = by-geometry Checked (λ e. checked (decision k g f a b) e (decision-accepted k g f e a b)) (refused _)
+  next checks a b = by-geometry Checked (λ e. checked (decision checks g f a b) e (decision-accepted checks g f e a b)) (refused _)
 
   abbrev WorkChecked : Work → Type 0
   WorkChecked w = (s : Step) → w ≡ W.Due s → stepCheck g (length f) s ≡ 0
@@ -140,8 +140,8 @@ module _ (g : Geometry) (f : List ℕ) where
 
 pub steps-accepted : StepsAccepted
 steps-accepted g f s = record {
-  step = λ k a b. next g f k a b s .0;
-  last = λ k a b. next g f k a b s .1;
+  step = λ checks a b. next g f checks a b s .0;
+  last = λ checks a b. next g f checks a b s .1;
   trigger = trigger g f s;
   confirm = confirm g f s;
 }

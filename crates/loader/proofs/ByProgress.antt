@@ -28,18 +28,18 @@ use Rattle.loader.specs.declared.answers.Answer.the-variants as A
 
 -- the number that UPDATE is passed over for, asked where the progress is 0
 abbrev pub why : Checks → Geometry → List ℕ → Bool → ℕ → ℕ
-why k g f b p = cond (eqb p 0) (passedOver k g f b) 0
+why checks g f b p = cond (eqb p 0) (passedOver checks g f b) 0
 
-module _ (k : Checks) (g : Geometry) (f : List ℕ) (ok : geometryCheck g (length f) ≡ 0) (t : ℕ) (a b : Bool) where
+module _ (checks : Checks) (g : Geometry) (f : List ℕ) (ok : geometryCheck g (length f) ≡ 0) (t : ℕ) (a b : Bool) where
   abbrev fs : List ℕ
   fs = flags (g .count) (trailerOf g f Update)
 
-  pub at-refusal : (n : ℕ) → progressOf fs ≡ P.Refused n → stagedDecision k g f t a b ≡ A.Refused n
+  pub at-refusal : (n : ℕ) → progressOf fs ≡ P.Refused n → stagedDecision checks g f t a b ≡ A.Refused n
   unfolding stagedDecision
   at-refusal n e = let h = ill-formed fs n e in rw (h .0, h .1)
 
   abbrev by : ℕ → Answer
-  by p = cond (eqb (why k g f b p) 0) (orElse (exchangeOf g f p) (finish k g f t a)) (bootOr k g f a (why k g f b p))
+  by p = cond (eqb (why checks g f b p) 0) (orElse (exchangeOf g f p) (finish checks g f t a)) (bootOr checks g f a (why checks g f b p))
 
   module _ (p : ℕ) (e : progressOf fs ≡ P.At p) where
     says : Says (g .count) p fs
@@ -56,34 +56,34 @@ module _ (k : Checks) (g : Geometry) (f : List ℕ) (ok : geometryCheck g (lengt
     sectors = valid g (length f) ok .shape .count-min
 
     -- all flags F
-    none-begun : p ≡ 0 → stagedDecision k g f t a b ≡ by p
+    none-begun : p ≡ 0 → stagedDecision checks g f t a b ≡ by p
     unfolding stagedDecision
     none-begun z =
         let u : all updated fs ≡ false = says .all-updated ∙ ne-eqb p (3 * g .count) (omega (arith, sectors)) in
         let n : all new fs ≡ true = says .all-new ∙ eq-eqb p 0 z in
         let h : p < 3 * g .count = omega (arith, sectors) in
-        rw (formed, u, n, current h, exchange-due g f p h, eq-eqb p 0 z) (go (eqb (passedOver k g f b) 0))
+        rw (formed, u, n, current h, exchange-due g f p h, eq-eqb p 0 z) (go (eqb (passedOver checks g f b) 0))
       where
-        go : (c : Bool) → cond (not c) (bootOr k g f a (passedOver k g f b)) (A.Step (exchangeStepAt g f p))
-            ≡ cond c (A.Step (exchangeStepAt g f p)) (bootOr k g f a (passedOver k g f b))
+        go : (c : Bool) → cond (not c) (bootOr checks g f a (passedOver checks g f b)) (A.Step (exchangeStepAt g f p))
+            ≡ cond c (A.Step (exchangeStepAt g f p)) (bootOr checks g f a (passedOver checks g f b))
         go true = refl
         go false = refl
 
     -- all flags 0
-    all-done : p ≢ 0 → p ≡ 3 * g .count → stagedDecision k g f t a b ≡ by p
+    all-done : p ≢ 0 → p ≡ 3 * g .count → stagedDecision checks g f t a b ≡ by p
     unfolding stagedDecision
     all-done z w = rw (formed, says .all-updated, eq-eqb p (3 * g .count) w, ne-eqb p 0 z, exchange-finished g f p (omega arith))
 
-    between : p ≢ 0 → p ≢ 3 * g .count → stagedDecision k g f t a b ≡ by p
+    between : p ≢ 0 → p ≢ 3 * g .count → stagedDecision checks g f t a b ≡ by p
     unfolding stagedDecision
     between z w =
         let h : p < 3 * g .count = omega (arith, says .bound) in
         rw (formed, says .all-updated, ne-eqb p (3 * g .count) w, says .all-new, ne-eqb p 0 z, current h, exchange-due g f p h)
 
-    pub at-progress : stagedDecision k g f t a b ≡ by p
+    pub at-progress : stagedDecision checks g f t a b ≡ by p
     at-progress = go (ℕ-discrete p 0) (ℕ-discrete p (3 * g .count))
       where
-        go : Dec (p ≡ 0) → Dec (p ≡ 3 * g .count) → stagedDecision k g f t a b ≡ by p
+        go : Dec (p ≡ 0) → Dec (p ≡ 3 * g .count) → stagedDecision checks g f t a b ≡ by p
         go (yes z) c = none-begun z
         go (no z) (yes w) = all-done z w
         go (no z) (no w) = between z w

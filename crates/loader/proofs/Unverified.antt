@@ -61,23 +61,23 @@ module _ (g : Geometry) (f : List ℕ) where
         let n : p ≢ 3 * g .count = λ q. never (sym (eq-eqb p (3 * g .count) q) ∙ sym (s .all-updated) ∙ not-updated) in
         omega (arith, s .bound)
 
-    module _ (ok : geometryCheck g (length f) ≡ 0) (k : Checks) (a b : Bool) where
-      by-progress : (r : Progress) → progressOf fs ≡ r → stagedDecision k g f testing a b ≡ answered r
+    module _ (ok : geometryCheck g (length f) ≡ 0) (checks : Checks) (a b : Bool) where
+      by-progress : (r : Progress) → progressOf fs ≡ r → stagedDecision checks g f testing a b ≡ answered r
       unfolding answered
-      by-progress (P.Refused n) e = at-refusal k g f ok testing a b n e
-      by-progress (P.At p) e = at-progress k g f ok testing a b p e ∙ rw (begun p e, exchange-due g f p (unfinished p e))
+      by-progress (P.Refused n) e = at-refusal checks g f ok testing a b n e
+      by-progress (P.At p) e = at-progress checks g f ok testing a b p e ∙ rw (begun p e, exchange-due g f p (unfinished p e))
 
-      decides : decision k g f a b ≡ answered (progressOf fs)
+      decides : decision checks g f a b ≡ answered (progressOf fs)
       unfolding decision
       decides = rw is-staged (by-progress (progressOf fs) refl)
 
 pub nothing-verified : NothingVerified
 unfolding nextStep
-nothing-verified g f is k k′ a a′ b b′ = go (eqb (geometryCheck g (length f)) 0) refl
+nothing-verified g f is checks checks′ a a′ b b′ = go (eqb (geometryCheck g (length f)) 0) refl
   where
     refused : Answer
     refused = A.Refused (geometryCheck g (length f))
 
-    go : (c : Bool) → eqb (geometryCheck g (length f)) 0 ≡ c → cond c (decision k g f a b) refused ≡ cond c (decision k′ g f a′ b′) refused
-    go true e = let ok = eqb-true _ _ e in decides g f is ok k a b ∙ sym (decides g f is ok k′ a′ b′)
+    go : (c : Bool) → eqb (geometryCheck g (length f)) 0 ≡ c → cond c (decision checks g f a b) refused ≡ cond c (decision checks′ g f a′ b′) refused
+    go true e = let ok = eqb-true _ _ e in decides g f is ok checks a b ∙ sym (decides g f is ok checks′ a′ b′)
     go false e = refl

@@ -27,12 +27,12 @@ orElse (W.Due s) a = A.Step s
 orElse W.Finished a = a
 orElse (W.Refused n) a = A.Refused n
 
-module _ (k : Checks) (g : Geometry) (f : List ℕ) where
+module _ (checks : Checks) (g : Geometry) (f : List ℕ) where
   abbrev bootVerdict : Bool → ℕ
-  bootVerdict a = k .verdict (imageOf g f Boot) a
+  bootVerdict a = checks .verdict (imageOf g f Boot) a
 
   abbrev updateVerdict : Bool → ℕ
-  updateVerdict b = k .verdict (imageOf g f Update) b
+  updateVerdict b = checks .verdict (imageOf g f Update) b
 
   -- 6. BOOT passes: boot, with the number that UPDATE was passed over for, 0 for none; otherwise refuse
   unfoldable pub bootOr : Bool → ℕ → Answer
@@ -45,7 +45,7 @@ module _ (k : Checks) (g : Geometry) (f : List ℕ) where
   -- 3. the number that UPDATE is passed over for, 0 for none: it must pass and, if BOOT isn't on trial, be accepted in BOOT's place
   unfoldable pub passedOver : Bool → ℕ
   passedOver b =
-      unless (eqb (updateVerdict b) 0) (updateVerdict b) (cond (onTrial g f) 0 (k .acceptance (imageOf g f Boot) (imageOf g f Update)))
+      unless (eqb (updateVerdict b) 0) (updateVerdict b) (cond (onTrial g f) 0 (checks .acceptance (imageOf g f Boot) (imageOf g f Update)))
 
   -- 2. BOOT's trailer is renewed to t, the state in which the swap ends; when finished, Byte 30 to UPDATE's state, which is the last
   -- step before booting if BOOT passes

@@ -21,4 +21,4 @@ midSwap g f =
 
 abbrev pub NothingVerified : Type 0
 NothingVerified = (g : Geometry) (f : List ℕ) → midSwap g f ≡ true
-    → (k k′ : Checks) (a a′ b b′ : Bool) → nextStep k g f a b ≡ nextStep k′ g f a′ b′
+    → (checks checks′ : Checks) (a a′ b b′ : Bool) → nextStep checks g f a b ≡ nextStep checks′ g f a′ b′

@@ -14,8 +14,8 @@ use Rattle.loader.specs.Requests.{triggerAnswer, confirmAnswer}
 use Rattle.loader.specs.declared.answers.Answer.the-variants as A
 
 pub record StepAccepted (g : Geometry) (f : List ℕ) (s : Step) : Type 0 where
-  pub step : (k : Checks) (a b : Bool) → nextStep k g f a b ≡ A.Step s → stepCheck g (length f) s ≡ 0
-  pub last : (k : Checks) (a b : Bool) → nextStep k g f a b ≡ A.LastStep s → stepCheck g (length f) s ≡ 0
+  pub step : (checks : Checks) (a b : Bool) → nextStep checks g f a b ≡ A.Step s → stepCheck g (length f) s ≡ 0
+  pub last : (checks : Checks) (a b : Bool) → nextStep checks g f a b ≡ A.LastStep s → stepCheck g (length f) s ≡ 0
   pub trigger : triggerAnswer g f ≡ Due s → stepCheck g (length f) s ≡ 0
   pub confirm : confirmAnswer g f ≡ Due s → stepCheck g (length f) s ≡ 0
 

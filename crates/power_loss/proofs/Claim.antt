@@ -71,7 +71,7 @@ ready g f = go (eqb (geometryCheck g (length f)) 0) refl (swapBegun g f) (onTria
     go true e true z w = never-same (cc)
     go false e y z w = never-same (cc)
 
-module _ (k : Checks) (sig : List ℕ → Bool) (g : Geometry) (f₀ : List ℕ) (tr : MayBegin k sig g f₀) where
+module _ (checks : Checks) (sig : List ℕ → Bool) (g : Geometry) (f₀ : List ℕ) (tr : MayBegin checks sig g f₀) where
   -- ---- the first list
 
   rd : Ready g f₀
@@ -81,14 +81,14 @@ module _ (k : Checks) (sig : List ℕ → Bool) (g : Geometry) (f₀ : List ℕ)
   v = valid g (length f₀) (rd .ok)
 
   abbrev t₁ : Setting
-  t₁ = following k g f₀ f₀
+  t₁ = following checks g f₀ f₀
 
   start₁ : Phase t₁ f₀ false
   start₁ = exchanging 0 (3 * g .count - 1) (omega (arith, v .shape .count-min)) (record {
     base = record { ok = rd .ok; bytes = tr .bytes; kept = kept-self g f₀ };
     is-staged = rd .is-staged;
     reached = new-flags (g .count) (trailerOf g f₀ Update) (rd .is-new);
-    held = contents-start k g f₀ (inr (tr .replaces));
+    held = contents-start checks g f₀ (inr (tr .replaces));
   })
 
   bound₁ : cost t₁ ones start₁ ≤ 9 * g .count + 4
@@ -105,16 +105,16 @@ module _ (k : Checks) (sig : List ℕ → Bool) (g : Geometry) (f₀ : List ℕ)
 
   module _ (f₁ : List ℕ) (ov : Over t₁ f₁) where
     swapped : Exchanged g f₀ f₁
-    swapped = contents-end k g f₀ f₁ (ov .held)
+    swapped = contents-end checks g f₀ f₁ (ov .held)
 
-    pass₂ : k .verdict (imageOf g f₁ Update) (sig (imageOf g f₁ Update)) ≡ 0
+    pass₂ : checks .verdict (imageOf g f₁ Update) (sig (imageOf g f₁ Update)) ≡ 0
     pass₂ = rw (image-same g f₁ f₀ Update Boot (swapped Update)) (tr .passes Boot)
 
     abbrev t₂ : Setting
-    t₂ = following k g f₁ f₀
+    t₂ = following checks g f₁ f₀
 
     start₂ : Phase t₂ f₁ false
-    start₂ = renewing (record { base = ov .base; may = tt; idle = ov .idle; trial = ov .trial; held = contents-start k g f₁ (inl (ov .trial)) })
+    start₂ = renewing (record { base = ov .base; may = tt; idle = ov .idle; trial = ov .trial; held = contents-start checks g f₁ (inl (ov .trial)) })
 
     bound₂ : cost t₂ ones start₂ ≤ 9 * g .count + 4
     unfolding start₂
@@ -125,12 +125,12 @@ module _ (k : Checks) (sig : List ℕ → Bool) (g : Geometry) (f₀ : List ℕ)
       renew-none ones g Boot testing (trailerOf g f₁ Boot) (renewed-sound (trailerOf g f₁ Boot) testing ∙ ov .trial),
     )
 
-    second : {h₂ : List Event} {f₂ : List ℕ} → Ended k sig g f₁ h₂ f₂ → Returned k sig g f₀ h₂ f₂
+    second : {h₂ : List Event} {f₂ : List ℕ} → Ended checks sig g f₁ h₂ f₂ → Returned checks sig g f₀ h₂ f₂
     second {h₂} {f₂} e =
-        let y = ended k sig g f₁ f₀ pass₂ start₂ e in
+        let y = ended checks sig g f₁ f₀ pass₂ start₂ e in
         record {
           bound = omega (arith, y .bill .le ones, bound₂, begun-weighed h₂, redone-cuts h₂);
-          restored = λ s i h. contents-end k g f₁ f₂ (y .over .held) s i h ∙ swapped (other s) i h ∙ twice s i;
+          restored = λ s i h. contents-end checks g f₁ f₂ (y .over .held) s i h ∙ swapped (other s) i h ∙ twice s i;
           kept = y .over .base .kept;
         }
       where
@@ -138,21 +138,21 @@ module _ (k : Checks) (sig : List ℕ → Bool) (g : Geometry) (f₀ : List ℕ)
         twice Boot i = refl
         twice Update i = refl
 
-  first : {h₁ : List Event} {f₁ : List ℕ} → Ended k sig g f₀ h₁ f₁ → Updated k sig g f₀ h₁ f₁
+  first : {h₁ : List Event} {f₁ : List ℕ} → Ended checks sig g f₀ h₁ f₁ → Updated checks sig g f₀ h₁ f₁
   first {h₁} {f₁} e =
-      let y = ended k sig g f₀ f₀ (tr .passes Update) start₁ e in
+      let y = ended checks sig g f₀ f₀ (tr .passes Update) start₁ e in
       record {
         bound = omega (arith, y .bill .le ones, bound₁, begun-weighed h₁, redone-cuts h₁);
         on-trial = y .over .trial;
         exchanged = swapped f₁ (y .over);
         kept = y .over .base .kept;
-        safe = safe k sig g f₁ f₀ (pass₂ f₁ (y .over)) (start₂ f₁ (y .over));
+        safe = safe checks sig g f₁ f₀ (pass₂ f₁ (y .over)) (start₂ f₁ (y .over));
         second = second f₁ (y .over);
       }
 
 -- Demand 3, for every list of cuts of both runs
 pub demand-three : DemandThree
-demand-three k sig g f tr = record { safe = safe k sig g f f (tr .passes Update) (start₁ k sig g f tr); first = first k sig g f tr }
+demand-three checks sig g f tr = record { safe = safe checks sig g f f (tr .passes Update) (start₁ checks sig g f tr); first = first checks sig g f tr }
 
 -- .. with the loader's own checks
 pub nothing-is-lost : NothingIsLost

@@ -116,11 +116,11 @@ same-place Swap (Sector s j) = no (λ e. never-same (cc))
 same-place Swap Swap = yes refl
 
 -- a list of power-ups that began with f₀
-module _ (k : Checks) (g : Geometry) (f₀ : List ℕ) where
+module _ (checks : Checks) (g : Geometry) (f₀ : List ℕ) where
   -- and at its start BOOT is on trial, or UPDATE's image may replace BOOT's
   pub record Contents (p : ℕ) (f : List ℕ) : Type 0 where
     pub holds : (q : Place) → Image g q → targetAt p ≢ q → bytesAt g f q ≡ bytesAt g f₀ (cameFrom p q)
-    pub rule : p ≡ 0 → (onTrial g f ≡ true) ⊎ (k .acceptance (imageOf g f₀ Boot) (imageOf g f₀ Update) ≡ 0)
+    pub rule : p ≡ 0 → (onTrial g f ≡ true) ⊎ (checks .acceptance (imageOf g f₀ Boot) (imageOf g f₀ Update) ≡ 0)
 
   pub retargets : (p : ℕ) (f f′ d : List ℕ) → p < 3 * g .count → Change g f f′ (targetAt p) d → Contents p f → Contents p f′
   retargets p f f′ d h c x = record {
@@ -167,7 +167,7 @@ module _ (k : Checks) (g : Geometry) (f₀ : List ℕ) where
   }
 
   -- at the start nothing is exchanged, at the end all is
-  pub contents-start : (onTrial g f₀ ≡ true) ⊎ (k .acceptance (imageOf g f₀ Boot) (imageOf g f₀ Update) ≡ 0) → Contents 0 f₀
+  pub contents-start : (onTrial g f₀ ≡ true) ⊎ (checks .acceptance (imageOf g f₀ Boot) (imageOf g f₀ Update) ≡ 0) → Contents 0 f₀
   contents-start r = record { holds = λ q i n. go q n; rule = λ z. r }
     where
       go : (q : Place) → targetAt 0 ≢ q → bytesAt g f₀ q ≡ bytesAt g f₀ (cameFrom 0 q)

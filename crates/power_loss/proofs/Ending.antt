@@ -33,7 +33,7 @@ use Rattle.power_loss.proofs.RunSteps.{by-check}
 use Rattle.power_loss.proofs.Runs.{three-each, end-most}
 use Rattle.power_loss.proofs.Weights.{ones}
 
-module _ (k : Checks) (g : Geometry) (f : List ℕ) (bytes : Bytes f) (ok : geometryCheck g (length f) ≡ 0) (a b : Bool) (m : ℕ) where
+module _ (checks : Checks) (g : Geometry) (f : List ℕ) (bytes : Bytes f) (ok : geometryCheck g (length f) ≡ 0) (a b : Bool) (m : ℕ) where
   abbrev u : Setting
   u = found g f
 
@@ -44,7 +44,7 @@ module _ (k : Checks) (g : Geometry) (f : List ℕ) (bytes : Bytes f) (ok : geom
   top = 2 * (9 * g .count + 4)
 
   -- a swap is pending: at some progress, or its flags are ill-formed
-  swap-run : staged g f ≡ true → Within m top (runFor k g m a b f)
+  swap-run : staged g f ≡ true → Within m top (runFor checks g m a b f)
   swap-run e = go (progressOf (flags (g .count) (trailerOf g f Update))) refl
     where
       at : (p : ℕ) → progressOf (flags (g .count) (trailerOf g f Update)) ≡ P.At p → Going u p f
@@ -55,11 +55,11 @@ module _ (k : Checks) (g : Geometry) (f : List ℕ) (bytes : Bytes f) (ok : geom
         held = tt;
       }
 
-      go : (x : Progress) → progressOf (flags (g .count) (trailerOf g f Update)) ≡ x → Within m top (runFor k g m a b f)
-      go (P.Refused n) q = stops k g f a b (A.Refused n) (at-ill-formed k g f ok a b e n q) tt m top
+      go : (x : Progress) → progressOf (flags (g .count) (trailerOf g f Update)) ≡ x → Within m top (runFor checks g m a b f)
+      go (P.Refused n) q = stops checks g f a b (A.Refused n) (at-ill-formed checks g f ok a b e n q) tt m top
       go (P.At p) q = by-end (decLt p (3 * g .count))
         where
-          by-end : Dec (p < 3 * g .count) → Within m top (runFor k g m a b f)
+          by-end : Dec (p < 3 * g .count) → Within m top (runFor checks g m a b f)
           by-end (yes l) = within-more
               (omega (
                 arith,
@@ -67,26 +67,26 @@ module _ (k : Checks) (g : Geometry) (f : List ℕ) (bytes : Bytes f) (ok : geom
                 three-each u (suc p) (3 * g .count - suc p),
                 end-most u f,
               ))
-              (found-run k g f m f a b (exchanging p (3 * g .count - suc p) (omega arith) (at p q)))
+              (found-run checks g f m f a b (exchanging p (3 * g .count - suc p) (omega arith) (at p q)))
           by-end (no l) =
               let z : p ≡ 3 * g .count = omega (arith, flags-says (g .count) (trailerOf g f Update) p q .bound) in
-              within-more (omega (arith, end-most u f)) (found-run k g f m f a b (finishing (subst (λ (i : ℕ). Going u i f) z (at p q))))
+              within-more (omega (arith, end-most u f)) (found-run checks g f m f a b (finishing (subst (λ (i : ℕ). Going u i f) z (at p q))))
 
-  any-run : Within m top (runFor k g m a b f)
+  any-run : Within m top (runFor checks g m a b f)
   any-run = go (staged g f) refl (onTrial g f) refl
     where
-      go : (x : Bool) → staged g f ≡ x → (y : Bool) → onTrial g f ≡ y → Within m top (runFor k g m a b f)
+      go : (x : Bool) → staged g f ≡ x → (y : Bool) → onTrial g f ≡ y → Within m top (runFor checks g m a b f)
       go true e y e′ = swap-run e
-      go false e true e′ = within-more (omega arith) (idle-run k g f base e e′ a b m)
-      go false e false e′ = stops k g f a b (bootOr k g f a 0) (at-rest k g f ok a b e e′) (boot-ends k g f ok a b 0) m top
+      go false e true e′ = within-more (omega arith) (idle-run checks g f base e e′ a b m)
+      go false e false e′ = stops checks g f a b (bootOr checks g f a 0) (at-rest checks g f ok a b e e′) (boot-ends checks g f ok a b 0) m top
 
 pub run-ends : RunEnds
-run-ends k g a b f c bytes = record { steps = λ m. run m .0; ends = run 4096 .1 (omega arith) }
+run-ends checks g a b f c bytes = record { steps = λ m. run m .0; ends = run 4096 .1 (omega arith) }
   where
     Bound : ℕ → Outcome → Type 0
     Bound m x = (length (x .steps) ≤ 2 * (9 * g .count + 4)) × (4096 ≤ m → IsEnd (x .answer))
 
-    run : (m : ℕ) → Bound m (runOf k g m a b f c)
-    run m = by-check k g f a b (Bound m) m c
-        (λ ok. let w = any-run k g f bytes ok a b m in (w .steps, λ h. w .ends (omega (arith, valid g (length f) ok .shape .count-max))))
+    run : (m : ℕ) → Bound m (runOf checks g m a b f c)
+    run m = by-check checks g f a b (Bound m) m c
+        (λ ok. let w = any-run checks g f bytes ok a b m in (w .steps, λ h. w .ends (omega (arith, valid g (length f) ok .shape .count-max))))
         (λ n. (omega arith, λ h. tt))

@@ -44,7 +44,7 @@ found g o = record {
   ends = λ s f f′ d h c x. tt;
 }
 
-module _ (k : Checks) (g : Geometry) (o : List ℕ) where
+module _ (checks : Checks) (g : Geometry) (o : List ℕ) where
   abbrev pub t : Setting
   t = found g o
 
@@ -52,20 +52,20 @@ module _ (k : Checks) (g : Geometry) (o : List ℕ) where
   limit p = cost t ones p + (9 * g .count + 4)
 
   -- a step that is decided, and the rest of the run
-  goes-on : (m l l′ : ℕ) (f : List ℕ) (a b : Bool) (s : Step) → nextStep k g f a b ≡ A.Step s → suc l′ ≤ l
-      → ((a′ b′ : Bool) → Within m l′ (runFor k g m a′ b′ (applied g f s))) → Within (suc m) l (runFor k g (suc m) a b f)
+  goes-on : (m l l′ : ℕ) (f : List ℕ) (a b : Bool) (s : Step) → nextStep checks g f a b ≡ A.Step s → suc l′ ≤ l
+      → ((a′ b′ : Bool) → Within m l′ (runFor checks g m a′ b′ (applied g f s))) → Within (suc m) l (runFor checks g (suc m) a b f)
   unfolding meets
   goes-on m l l′ f a b s e le rest =
-      rw (run-step k g f a b m s e, step-done k g f a b s e) (within-more le (within-did s (rest _ _)))
+      rw (run-step checks g f a b m s e, step-done checks g f a b s e) (within-more le (within-did s (rest _ _)))
 
-  last-step : (m l : ℕ) (f : List ℕ) (a b : Bool) (s : Step) → nextStep k g f a b ≡ A.LastStep s → 1 ≤ l
-      → Within (suc m) l (runFor k g (suc m) a b f)
-  last-step m l f a b s e h = rw (run-last k g f a b m s e) (record { steps = omega arith; ends = λ q. tt })
+  last-step : (m l : ℕ) (f : List ℕ) (a b : Bool) (s : Step) → nextStep checks g f a b ≡ A.LastStep s → 1 ≤ l
+      → Within (suc m) l (runFor checks g (suc m) a b f)
+  last-step m l f a b s e h = rw (run-last checks g f a b m s e) (record { steps = omega arith; ends = λ q. tt })
 
-  pub found-run : (m : ℕ) (f : List ℕ) (a b : Bool) {late : Bool} (p : Phase t f late) → Within m (limit p) (runFor k g m a b f)
-  found-run zero f a b p = rw (run-due k g f a b) (record { steps = omega arith; ends = λ q. absurd (omega arith) })
+  pub found-run : (m : ℕ) (f : List ℕ) (a b : Bool) {late : Bool} (p : Phase t f late) → Within m (limit p) (runFor checks g m a b f)
+  found-run zero f a b p = rw (run-due checks g f a b) (record { steps = omega arith; ends = λ q. absurd (omega arith) })
   found-run (suc m) f a b (renewing h) = absurd (h .may)
-  found-run (suc m) f a b (exchanging p left e h) = go (λ f′ a′ b′ late p′. found-run m f′ a′ b′ {late = late} p′) (eqb (why k g f b p) 0) refl
+  found-run (suc m) f a b (exchanging p left e h) = go (λ f′ a′ b′ late p′. found-run m f′ a′ b′ {late = late} p′) (eqb (why checks g f b p) 0) refl
     where
       ph : Phase t f false
       ph = exchanging p left e h
@@ -73,15 +73,15 @@ module _ (k : Checks) (g : Geometry) (o : List ℕ) where
       mv : Move t ph (exchangeStepAt g f p)
       mv = move-exchanging t f p left e h
 
-      go : ((f′ : List ℕ) (a′ b′ : Bool) (late : Bool) (p′ : Phase t f′ late) → Within m (limit p′) (runFor k g m a′ b′ f′))
-          → (c : Bool) → eqb (why k g f b p) 0 ≡ c → Within (suc m) (limit ph) (runFor k g (suc m) a b f)
+      go : ((f′ : List ℕ) (a′ b′ : Bool) (late : Bool) (p′ : Phase t f′ late) → Within m (limit p′) (runFor checks g m a′ b′ f′))
+          → (c : Bool) → eqb (why checks g f b p) 0 ≡ c → Within (suc m) (limit ph) (runFor checks g (suc m) a b f)
       go rec true q =
           goes-on m (limit ph) (limit (mv .whole .phase)) f a b (exchangeStepAt g f p)
-          (at-exchange t h k a b (omega arith) (eqb-true (why k g f b p) 0 q))
+          (at-exchange t h checks a b (omega arith) (eqb-true (why checks g f b p) 0 q))
           (omega (arith, of-one (exchangeStepAt g f p) .0, mv .less ones, mv .whole .fits ones))
           (λ a′ b′. rec (applied g f (exchangeStepAt g f p)) a′ b′ (mv .whole .late) (mv .whole .phase))
-      go rec false q = stops k g f a b (bootOr k g f a (why k g f b p)) (at-passed-over t h k a b q)
-          (boot-ends k g f (h .base .ok) a b (why k g f b p)) (suc m) (limit ph)
+      go rec false q = stops checks g f a b (bootOr checks g f a (why checks g f b p)) (at-passed-over t h checks a b q)
+          (boot-ends checks g f (h .base .ok) a b (why checks g f b p)) (suc m) (limit ph)
   found-run (suc m) f a b (finishing h) = go (λ f′ a′ b′ late p′. found-run m f′ a′ b′ {late = late} p′) (onTrial g f) refl
     where
       ph : Phase t f true
@@ -90,25 +90,25 @@ module _ (k : Checks) (g : Geometry) (o : List ℕ) where
       spending : Step
       spending = Byte (stateAt g Update) spent
 
-      spent-run : (e : onTrial g f ≡ true) (a′ b′ : Bool) → Within m (9 * g .count + 4) (runFor k g m a′ b′ (applied g f spending))
+      spent-run : (e : onTrial g f ≡ true) (a′ b′ : Bool) → Within m (9 * g .count + 4) (runFor checks g m a′ b′ (applied g f spending))
       spent-run e a′ b′ =
           let v : Over t (applied g f spending) = over t f h e in
-          idle-run k g (applied g f spending) (record { ok = v .base .ok; bytes = v .base .bytes; kept = kept-self g (applied g f spending) })
+          idle-run checks g (applied g f spending) (record { ok = v .base .ok; bytes = v .base .bytes; kept = kept-self g (applied g f spending) })
           (v .idle) (v .trial) a′ b′ m
 
-      last : onTrial g f ≡ true → (c : Bool) → eqb (k .verdict (imageOf g f Boot) a) 0 ≡ c
-          → Within (suc m) (limit ph) (runFor k g (suc m) a b f)
+      last : onTrial g f ≡ true → (c : Bool) → eqb (checks .verdict (imageOf g f Boot) a) 0 ≡ c
+          → Within (suc m) (limit ph) (runFor checks g (suc m) a b f)
       last e true q =
-          last-step m (limit ph) f a b spending (finish-last t h k a b e (eqb-true (k .verdict (imageOf g f Boot) a) 0 q)) (omega arith)
+          last-step m (limit ph) f a b spending (finish-last t h checks a b e (eqb-true (checks .verdict (imageOf g f Boot) a) 0 q)) (omega arith)
       last e false q =
-          goes-on m (limit ph) (9 * g .count + 4) f a b spending (finish-on t h k a b e q) (omega arith) (spent-run e)
+          goes-on m (limit ph) (9 * g .count + 4) f a b spending (finish-on t h checks a b e q) (omega arith) (spent-run e)
 
-      go : ((f′ : List ℕ) (a′ b′ : Bool) (late : Bool) (p′ : Phase t f′ late) → Within m (limit p′) (runFor k g m a′ b′ f′))
-          → (c : Bool) → onTrial g f ≡ c → Within (suc m) (limit ph) (runFor k g (suc m) a b f)
-      go rec true e = last e (eqb (k .verdict (imageOf g f Boot) a) 0) refl
+      go : ((f′ : List ℕ) (a′ b′ : Bool) (late : Bool) (p′ : Phase t f′ late) → Within m (limit p′) (runFor checks g m a′ b′ f′))
+          → (c : Bool) → onTrial g f ≡ c → Within (suc m) (limit ph) (runFor checks g (suc m) a b f)
+      go rec true e = last e (eqb (checks .verdict (imageOf g f Boot) a) 0) refl
       go rec false e =
           let d : Step = finishes t f h e .0 in
           let mv : Move t ph d = move-finishing t f h e in
-          goes-on m (limit ph) (limit (mv .whole .phase)) f a b d (finish-due t h k a b d (finishes t f h e .1 .is-due))
+          goes-on m (limit ph) (limit (mv .whole .phase)) f a b d (finish-due t h checks a b d (finishes t f h e .1 .is-due))
           (omega (arith, of-one d .0, mv .less ones, mv .whole .fits ones))
           (λ a′ b′. rec (applied g f d) a′ b′ (mv .whole .late) (mv .whole .phase))

@@ -93,7 +93,7 @@ module _ (t : Setting) where
   abbrev pub endCost : Weight → List ℕ → ℕ
   endCost w f = renewCost w g Boot testing (trailerOf g f Boot) + w .writes
 
-  abbrev pub cost : {f : List ℕ} {k : Bool} → Weight → Phase f k → ℕ
+  abbrev pub cost : {f : List ℕ} {late : Bool} → Weight → Phase f late → ℕ
   cost {f} w (renewing h) = startCost w f + copies w 0 (3 * g .count) + endCost w f
   cost {f} w (exchanging p left e h) =
       copyCost w (offset g (targetAt p)) (bytesAt g f (sourceAt p)) (bytesAt g f (targetAt p)) + copies w (suc p) left + endCost w f
@@ -129,15 +129,15 @@ module _ (t : Setting) where
   reach-more le r = record { late = r .late; phase = r .phase; fits = λ w. omega (arith, le w, r .fits w) }
 
   -- the step s from the phase p, whole or cut
-  pub record Move {f : List ℕ} {k : Bool} (p : Phase f k) (s : Step) : Type 0 where
+  pub record Move {f : List ℕ} {late : Bool} (p : Phase f late) (s : Step) : Type 0 where
     pub left : Weight → ℕ
     pub less : (w : Weight) → weigh w s + left w ≤ cost w p
     pub whole : Reach (applied g f s) left
-    pub keeps : k ≡ true → whole .late ≡ true
+    pub keeps : late ≡ true → whole .late ≡ true
     pub broken : (f′ : List ℕ) → Cut g f s f′ → Reach f′ (λ w. cost w p + harm w s)
 
   -- the last step s from the phase p, whole, or cut and not done
-  pub record Arrival {f : List ℕ} {k : Bool} (p : Phase f k) (s : Step) : Type 0 where
+  pub record Arrival {f : List ℕ} {late : Bool} (p : Phase f late) (s : Step) : Type 0 where
     pub less : (w : Weight) → weigh w s ≤ cost w p
     pub whole : Over (applied g f s)
     pub broken : (f′ : List ℕ) → Cut g f s f′ → same f′ (applied g f s) ≡ false → Reach f′ (λ w. cost w p + harm w s)

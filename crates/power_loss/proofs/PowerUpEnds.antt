@@ -51,9 +51,9 @@ due-last : {x : Answer} {s s′ : Step} {last : Bool} → Due x s last → x ≡
 due-last (ordinary s) e = absurd (step≢last e)
 due-last (last s) e = (cc, refl)
 
-module _ (k : Checks) (g : Geometry) (f₀ o : List ℕ) (a b : Bool) (pass : k .verdict (imageOf g f₀ Update) b ≡ 0) where
+module _ (checks : Checks) (g : Geometry) (f₀ o : List ℕ) (a b : Bool) (pass : checks .verdict (imageOf g f₀ Update) b ≡ 0) where
   abbrev t : Setting
-  t = following k g f₀ o
+  t = following checks g f₀ o
 
   -- after the events h the flash f is in some phase
   pub record Stands (f : List ℕ) (h : List Event) (all : Weight → ℕ) : Type 0 where
@@ -69,14 +69,14 @@ module _ (k : Checks) (g : Geometry) (f₀ o : List ℕ) (a b : Bool) (pass : k 
   -- ---- the step due from a phase
 
   module _ {f : List ℕ} {late : Bool} {p : Phase t f late} {s : Step} {last : Bool}
-      (d : Due (nextStep k g f (forBoot k g f₀ o a b late) (forUpdate k g f₀ o a b late)) s last) {f′ : List ℕ} where
+      (d : Due (nextStep checks g f (forBoot checks g f₀ o a b late) (forUpdate checks g f₀ o a b late)) s last) {f′ : List ℕ} where
     -- cut, and not a boot
-    broken : Next k g f₀ o a b p → Cut g f s f′ → (last && same f′ (applied g f s)) ≡ false → Reach t f′ (λ w. cost t w p + harm w s)
+    broken : Next checks g f₀ o a b p → Cut g f s f′ → (last && same f′ (applied g f s)) ≡ false → Reach t f′ (λ w. cost t w p + harm w s)
     broken (onward s′ e mv) c n = let q = due-step d e in rw (q .0) (mv .broken f′ (rw (q .0) at c))
     broken (arrive s′ e ar) c n = let q = due-last d e in rw (q .0) (ar .broken f′ (rw (q .0) at c) (rw (q .0, q .1) at n))
 
     -- the last step, cut and done
-    arrived : Next k g f₀ o a b p → (last && same f′ (applied g f s)) ≡ true → Over t f′
+    arrived : Next checks g f₀ o a b p → (last && same f′ (applied g f s)) ≡ true → Over t f′
     arrived (onward s′ e mv) n = never (sym n ∙ rw (due-step d e .1))
     arrived (arrive s′ e ar) n =
         let q = due-last d e in
@@ -85,43 +85,43 @@ module _ (k : Checks) (g : Geometry) (f₀ o : List ℕ) (a b : Bool) (pass : k 
 
   module _ {m : ℕ} {all : Weight → ℕ} {x : Outcome} where
     -- cut before the step due
-    pub still : {s : Step} {last : Bool} → Ran k g f₀ o a b m all x → Due (x .answer) s last
+    pub still : {s : Step} {last : Bool} → Ran checks g f₀ o a b m all x → Due (x .answer) s last
         → Stands (x .flash) (finishedAll (x .steps) ++ cutBetween ∷ []) all
     still (done e ov le) d = absurd (due-boot d e)
     still (due {late} p e q le) d = record { late = late; phase = p; bill = between-bill (x .steps) le }
 
     -- cut on the step due, and not a boot
-    pub struck : {s : Step} {last : Bool} {f′ : List ℕ} → Ran k g f₀ o a b m all x → Due (x .answer) s last → Cut g (x .flash) s f′
+    pub struck : {s : Step} {last : Bool} {f′ : List ℕ} → Ran checks g f₀ o a b m all x → Due (x .answer) s last → Cut g (x .flash) s f′
         → (last && same f′ (applied g (x .flash) s)) ≡ false → Stands f′ (finishedAll (x .steps) ++ cutOn s ∷ []) all
     struck (done e ov le) d c n = absurd (due-boot d e)
     struck {s} (due p e q le) d c n =
-        let r = broken (rw e at d) (next k g f₀ o a b pass (x .flash) p) c n in
+        let r = broken (rw e at d) (next checks g f₀ o a b pass (x .flash) p) c n in
         record { late = r .late; phase = r .phase; bill = cut-bill (x .steps) s (λ w. omega (arith, le w, r .fits w)) }
 
     -- cut on the last step, and done
-    pub finished : {s : Step} {last : Bool} {f′ : List ℕ} → Ran k g f₀ o a b m all x → Due (x .answer) s last
+    pub finished : {s : Step} {last : Bool} {f′ : List ℕ} → Ran checks g f₀ o a b m all x → Due (x .answer) s last
         → (last && same f′ (applied g (x .flash) s)) ≡ true → Booted f′ (finishedAll (x .steps) ++ cutOn s ∷ []) all
     finished (done e ov le) d n = absurd (due-boot d e)
     finished {s} (due p e q le) d n = record {
-      over = arrived (rw e at d) (next k g f₀ o a b pass (x .flash) p) n;
+      over = arrived (rw e at d) (next checks g f₀ o a b pass (x .flash) p) n;
       bill = cut-bill (x .steps) s (λ w. omega (arith, le w));
     }
 
     -- the boot is reached
-    pub booted : (r : ℕ) → Ran k g f₀ o a b m all x → x .answer ≡ A.Boot r
+    pub booted : (r : ℕ) → Ran checks g f₀ o a b m all x → x .answer ≡ A.Boot r
         → Over t (x .flash) × ((w : Weight) → weighed w (finishedAll (x .steps)) + 0 ≤ all w)
     booted r (done e ov le) q = (ov, λ w. omega (arith, le w))
-    booted r (due p e n le) q = absurd (go (next k g f₀ o a b pass (x .flash) p))
+    booted r (due p e n le) q = absurd (go (next checks g f₀ o a b pass (x .flash) p))
       where
-        go : Next k g f₀ o a b p → ⊥
+        go : Next checks g f₀ o a b p → ⊥
         go (onward s′ e′ mv) = step≢boot (sym e′ ∙ sym e ∙ q)
         go (arrive s′ e′ ar) = last≢boot (sym e′ ∙ sym e ∙ q)
 
     -- a step, a last step or a boot with no reason is answered
-    pub goes-on : Ran k g f₀ o a b m all x → GoesOn (x .answer)
+    pub goes-on : Ran checks g f₀ o a b m all x → GoesOn (x .answer)
     goes-on (done e ov le) = rw e refl
-    goes-on (due {late} p e n le) = rw e (go (next k g f₀ o a b pass (x .flash) p))
+    goes-on (due {late} p e n le) = rw e (go (next checks g f₀ o a b pass (x .flash) p))
       where
-        go : Next k g f₀ o a b p → GoesOn (nextStep k g (x .flash) (forBoot k g f₀ o a b late) (forUpdate k g f₀ o a b late))
+        go : Next checks g f₀ o a b p → GoesOn (nextStep checks g (x .flash) (forBoot checks g f₀ o a b late) (forUpdate checks g f₀ o a b late))
         go (onward s′ e′ mv) = rw e′ tt
         go (arrive s′ e′ ar) = rw e′ tt

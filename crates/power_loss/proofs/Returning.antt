@@ -42,9 +42,9 @@ within-more h w = record { steps = omega (arith, w .steps); ends = λ q. w .ends
 pub within-did : {m l : ℕ} {x : Outcome} (s : Step) → Within m l x → Within (suc m) (suc l) (did s x)
 within-did s w = record { steps = omega (arith, w .steps); ends = λ q. w .ends (omega arith) }
 
-module _ (k : Checks) (g : Geometry) (f : List ℕ) (a b : Bool) where
-  pub stops : (x : Answer) → nextStep k g f a b ≡ x → IsEnd x → (m l : ℕ) → Within m l (runFor k g m a b f)
-  stops x e end m l = rw (run-stops k g f a b m x e end) (record { steps = omega arith; ends = λ q. end })
+module _ (checks : Checks) (g : Geometry) (f : List ℕ) (a b : Bool) where
+  pub stops : (x : Answer) → nextStep checks g f a b ≡ x → IsEnd x → (m l : ℕ) → Within m l (runFor checks g m a b f)
+  stops x e end m l = rw (run-stops checks g f a b m x e end) (record { steps = omega arith; ends = λ q. end })
 
 -- ---- a return
 
@@ -53,13 +53,13 @@ unfolding sum finishedAll
 count [] = refl
 count (s ∷ l) = ap suc (count l) ∙ sym (one-more s l)
 
-module _ (k : Checks) (g : Geometry) (f : List ℕ) (base : Base g f f) (idle : staged g f ≡ false) (trial : onTrial g f ≡ true)
+module _ (checks : Checks) (g : Geometry) (f : List ℕ) (base : Base g f f) (idle : staged g f ≡ false) (trial : onTrial g f ≡ true)
     (a b : Bool) where
   abbrev back : Setting
-  back = following k g f f
+  back = following checks g f f
 
   abbrev start : Phase back f false
-  start = renewing (record { base = base; may = tt; idle = idle; trial = trial; held = contents-start k g f (inl trial) })
+  start = renewing (record { base = base; may = tt; idle = idle; trial = trial; held = contents-start checks g f (inl trial) })
 
   back-cost : cost back ones start ≤ 9 * g .count + 4
   back-cost = omega (
@@ -69,17 +69,17 @@ module _ (k : Checks) (g : Geometry) (f : List ℕ) (base : Base g f f) (idle : 
     renew-none ones g Boot testing (trailerOf g f Boot) (renewed-sound (trailerOf g f Boot) testing ∙ trial),
   )
 
-  pub idle-run : (m : ℕ) → Within m (9 * g .count + 4) (runFor k g m a b f)
-  idle-run m = go (eqb (k .verdict (imageOf g f Update) b) 0) refl
+  pub idle-run : (m : ℕ) → Within m (9 * g .count + 4) (runFor checks g m a b f)
+  idle-run m = go (eqb (checks .verdict (imageOf g f Update) b) 0) refl
     where
-      ran : Ran k g f f a b m (λ w. cost back w start) (runFor k g m a b f) → Within m (9 * g .count + 4) (runFor k g m a b f)
+      ran : Ran checks g f f a b m (λ w. cost back w start) (runFor checks g m a b f) → Within m (9 * g .count + 4) (runFor checks g m a b f)
       ran (due p e n le) = record {
-        steps = omega (arith, count (runFor k g m a b f .steps), le ones, back-cost);
+        steps = omega (arith, count (runFor checks g m a b f .steps), le ones, back-cost);
         ends = λ q. absurd (omega (arith, n, le ones, back-cost));
       }
-      ran (done e ov le) = record { steps = omega (arith, count (runFor k g m a b f .steps), le ones, back-cost); ends = λ q. rw e tt }
+      ran (done e ov le) = record { steps = omega (arith, count (runFor checks g m a b f .steps), le ones, back-cost); ends = λ q. rw e tt }
 
-      go : (c : Bool) → eqb (k .verdict (imageOf g f Update) b) 0 ≡ c → Within m (9 * g .count + 4) (runFor k g m a b f)
-      go true e = ran (runs k g f f a b (eqb-true (k .verdict (imageOf g f Update) b) 0 e) m f false start)
-      go false e = stops k g f a b (bootOr k g f a (k .verdict (imageOf g f Update) b)) (back-passed-over k g f (base .ok) a b idle trial e)
-          (boot-ends k g f (base .ok) a b (k .verdict (imageOf g f Update) b)) m (9 * g .count + 4)
+      go : (c : Bool) → eqb (checks .verdict (imageOf g f Update) b) 0 ≡ c → Within m (9 * g .count + 4) (runFor checks g m a b f)
+      go true e = ran (runs checks g f f a b (eqb-true (checks .verdict (imageOf g f Update) b) 0 e) m f false start)
+      go false e = stops checks g f a b (bootOr checks g f a (checks .verdict (imageOf g f Update) b)) (back-passed-over checks g f (base .ok) a b idle trial e)
+          (boot-ends checks g f (base .ok) a b (checks .verdict (imageOf g f Update) b)) m (9 * g .count + 4)

@@ -22,26 +22,26 @@ use Rattle.runner.specs.Runs.{Outcome, ends, did, meets, runFor, runCheck, runO
 use Rattle.runner.specs.declared.counts.StepCounts.{StepCounts}
 use Rattle.power_loss.specs.RunEnds.{IsEnd}
 
-module _ (k : Checks) (g : Geometry) (f : List ℕ) (a b : Bool) where
+module _ (checks : Checks) (g : Geometry) (f : List ℕ) (a b : Bool) where
   -- with the number used up, the step due
-  pub run-due : runFor k g 0 a b f ≡ ends (nextStep k g f a b) f
+  pub run-due : runFor checks g 0 a b f ≡ ends (nextStep checks g f a b) f
   unfolding runFor
   run-due = refl
 
   -- a step that is decided is carried out; which answers of the checker the rest of the run goes by, `meets` says
-  pub run-step : (m : ℕ) (s : Step) → nextStep k g f a b ≡ A.Step s → runFor k g (suc m) a b f ≡ meets g (runFor k g m) a b f (A.Step s)
+  pub run-step : (m : ℕ) (s : Step) → nextStep checks g f a b ≡ A.Step s → runFor checks g (suc m) a b f ≡ meets g (runFor checks g m) a b f (A.Step s)
   unfolding runFor
   run-step m s e = rw e
 
-  pub step-done : (s : Step) → nextStep k g f a b ≡ A.Step s → flashAfter g f s ≡ applied g f s
-  step-done s e = flash-after g f s (steps-accepted g f s .step k a b e)
+  pub step-done : (s : Step) → nextStep checks g f a b ≡ A.Step s → flashAfter g f s ≡ applied g f s
+  step-done s e = flash-after g f s (steps-accepted g f s .step checks a b e)
 
-  pub run-last : (m : ℕ) (s : Step) → nextStep k g f a b ≡ A.LastStep s → runFor k g (suc m) a b f ≡ did s (ends (A.Boot 0) (applied g f s))
+  pub run-last : (m : ℕ) (s : Step) → nextStep checks g f a b ≡ A.LastStep s → runFor checks g (suc m) a b f ≡ did s (ends (A.Boot 0) (applied g f s))
   unfolding runFor meets
-  run-last m s e = rw (e, flash-after g f s (steps-accepted g f s .last k a b e))
+  run-last m s e = rw (e, flash-after g f s (steps-accepted g f s .last checks a b e))
 
   -- a boot or a refusal ends the run
-  pub run-stops : (m : ℕ) (x : Answer) → nextStep k g f a b ≡ x → IsEnd x → runFor k g m a b f ≡ ends x f
+  pub run-stops : (m : ℕ) (x : Answer) → nextStep checks g f a b ≡ x → IsEnd x → runFor checks g m a b f ≡ ends x f
   unfolding runFor meets
   run-stops zero x e end = rw e
   run-stops (suc m) (A.Boot r) e end = rw e
@@ -51,13 +51,13 @@ module _ (k : Checks) (g : Geometry) (f : List ℕ) (a b : Bool) where
 
   -- ---- on every input
 
-  pub run-begins : (m : ℕ) (c : StepCounts) → geometryCheck g (length f) ≡ 0 → m ≤ 4096 → roomy c ≡ true → runOf k g m a b f c ≡ runFor k g m a b f
+  pub run-begins : (m : ℕ) (c : StepCounts) → geometryCheck g (length f) ≡ 0 → m ≤ 4096 → roomy c ≡ true → runOf checks g m a b f c ≡ runFor checks g m a b f
   unfolding runOf runCheck countsCheck
   run-begins m c ok le r = rw (ok, le-leb m 4096 le, r)
 
   -- the run is refused at once, or the geometry is accepted
-  pub by-check : (P : Outcome → Type 0) (m : ℕ) (c : StepCounts) → (geometryCheck g (length f) ≡ 0 → P (runFor k g m a b f))
-      → ((n : ℕ) → P (ends (A.Refused n) f)) → P (runOf k g m a b f c)
+  pub by-check : (P : Outcome → Type 0) (m : ℕ) (c : StepCounts) → (geometryCheck g (length f) ≡ 0 → P (runFor checks g m a b f))
+      → ((n : ℕ) → P (ends (A.Refused n) f)) → P (runOf checks g m a b f c)
   unfolding runOf runCheck
   by-check P m c runs refused =
       by-test P (eqb (runCheck g (length f) m c) 0) (λ e. runs (checked (eqb number 0) refl e)) (λ e. refused (runCheck g (length f) m c))

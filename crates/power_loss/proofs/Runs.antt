@@ -79,9 +79,9 @@ module _ (t : Setting) where
 
 -- ---- the next step, in a list that began with f₀: a and b are the checker's answers for the images of BOOT and UPDATE in f₀
 
-module _ (k : Checks) (g : Geometry) (f₀ o : List ℕ) (a b : Bool) where
+module _ (checks : Checks) (g : Geometry) (f₀ o : List ℕ) (a b : Bool) where
   abbrev pub t : Setting
-  t = following k g f₀ o
+  t = following checks g f₀ o
 
   -- the answers for the slots as they are: the images exchanged or not
   abbrev pub forBoot : Bool → Bool
@@ -92,40 +92,40 @@ module _ (k : Checks) (g : Geometry) (f₀ o : List ℕ) (a b : Bool) where
 
   -- the next step from the phase p
   pub data Next {f : List ℕ} {late : Bool} (p : Phase t f late) : Type 0 where
-    onward : (s : Step) → nextStep k g f (forBoot late) (forUpdate late) ≡ A.Step s → Move t p s → Next p
-    arrive : (s : Step) → nextStep k g f (forBoot late) (forUpdate late) ≡ A.LastStep s → Arrival t p s → Next p
+    onward : (s : Step) → nextStep checks g f (forBoot late) (forUpdate late) ≡ A.Step s → Move t p s → Next p
+    arrive : (s : Step) → nextStep checks g f (forBoot late) (forUpdate late) ≡ A.LastStep s → Arrival t p s → Next p
 
-  module _ (pass : k .verdict (imageOf g f₀ Update) b ≡ 0) (f : List ℕ) where
-    same-image : Contents k g f₀ 0 f → (s : Slot) → imageOf g f s ≡ imageOf g f₀ s
-    same-image c s = image-same g f f₀ s s (contents-new k g f₀ f c s)
+  module _ (pass : checks .verdict (imageOf g f₀ Update) b ≡ 0) (f : List ℕ) where
+    same-image : Contents checks g f₀ 0 f → (s : Slot) → imageOf g f s ≡ imageOf g f₀ s
+    same-image c s = image-same g f f₀ s s (contents-new checks g f₀ f c s)
 
-    passes : Contents k g f₀ 0 f → k .verdict (imageOf g f Update) b ≡ 0
+    passes : Contents checks g f₀ 0 f → checks .verdict (imageOf g f Update) b ≡ 0
     passes c = rw (same-image c Update) pass
 
     next-renewing : (h : Renewing t f) → Next (renewing h)
     next-renewing h =
         onward (renews t f h .0)
-        (back-due k g f (h .base .ok) a b (h .idle) (h .trial) (passes (h .held)) (renews t f h .0) (renews t f h .1 .is-due))
+        (back-due checks g f (h .base .ok) a b (h .idle) (h .trial) (passes (h .held)) (renews t f h .0) (renews t f h .1 .is-due))
         (move-renewing t f h)
 
-    allowed : (p : ℕ) → Going t p f → why k g f b p ≡ 0
-    allowed zero h = not-passed-over k g f (h .base .ok) a b (passes (h .held))
+    allowed : (p : ℕ) → Going t p f → why checks g f b p ≡ 0
+    allowed zero h = not-passed-over checks g f (h .base .ok) a b (passes (h .held))
         (rw (same-image (h .held) Boot, same-image (h .held) Update) (h .held .rule refl))
     allowed (suc p) h = rw (ne-eqb (suc p) 0 (omega arith))
 
     next-exchanging : (p left : ℕ) (e : suc p + left ≡ 3 * g .count) (h : Going t p f) → Next (exchanging p left e h)
     next-exchanging p left e h =
-        onward (exchangeStepAt g f p) (at-exchange t h k a b (omega arith) (allowed p h)) (move-exchanging t f p left e h)
+        onward (exchangeStepAt g f p) (at-exchange t h checks a b (omega arith) (allowed p h)) (move-exchanging t f p left e h)
 
     next-finishing : (h : Going t (3 * g .count) f) → Next (finishing h)
     next-finishing h = go (onTrial g f) refl
       where
         i : imageOf g f Boot ≡ imageOf g f₀ Update
-        i = image-same g f f₀ Boot Update (contents-end k g f₀ f (h .held) Boot)
+        i = image-same g f f₀ Boot Update (contents-end checks g f₀ f (h .held) Boot)
 
         go : (c : Bool) → onTrial g f ≡ c → Next (finishing h)
-        go true e = arrive (Byte (stateAt g Update) spent) (finish-last t h k b a e (rw i pass)) (arrival t f h e)
-        go false e = onward (finishes t f h e .0) (finish-due t h k b a (finishes t f h e .0) (finishes t f h e .1 .is-due)) (move-finishing t f h e)
+        go true e = arrive (Byte (stateAt g Update) spent) (finish-last t h checks b a e (rw i pass)) (arrival t f h e)
+        go false e = onward (finishes t f h e .0) (finish-due t h checks b a (finishes t f h e .0) (finishes t f h e .1 .is-due)) (move-finishing t f h e)
 
     pub next : {late : Bool} (p : Phase t f late) → Next p
     next (renewing h) = next-renewing h
@@ -136,7 +136,7 @@ module _ (k : Checks) (g : Geometry) (f₀ o : List ℕ) (a b : Bool) where
 
   -- what a run of m steps leaves, where `all` was to be done
   pub data Ran (m : ℕ) (all : Weight → ℕ) (x : Outcome) : Type 0 where
-    due : {late : Bool} (p : Phase t (x .flash) late) → x .answer ≡ nextStep k g (x .flash) (forBoot late) (forUpdate late)
+    due : {late : Bool} (p : Phase t (x .flash) late) → x .answer ≡ nextStep checks g (x .flash) (forBoot late) (forUpdate late)
         → weighed ones (finishedAll (x .steps)) ≡ m → ((w : Weight) → weighed w (finishedAll (x .steps)) + cost t w p ≤ all w) → Ran m all x
     done : x .answer ≡ A.Boot 0 → Over t (x .flash) → ((w : Weight) → weighed w (finishedAll (x .steps)) ≤ all w) → Ran m all x
 
@@ -153,22 +153,22 @@ module _ (k : Checks) (g : Geometry) (f₀ o : List ℕ) (a b : Bool) where
   exchanging-turns false true x y h = refl
   exchanging-turns false false x y h = refl
 
-  pub runs : k .verdict (imageOf g f₀ Update) b ≡ 0 → (m : ℕ) (f : List ℕ) (late : Bool) (p : Phase t f late)
-      → Ran m (λ w. cost t w p) (runFor k g m (forBoot late) (forUpdate late) f)
+  pub runs : checks .verdict (imageOf g f₀ Update) b ≡ 0 → (m : ℕ) (f : List ℕ) (late : Bool) (p : Phase t f late)
+      → Ran m (λ w. cost t w p) (runFor checks g m (forBoot late) (forUpdate late) f)
   unfolding meets sum finishedAll
-  runs pass zero f late p = rw (run-due k g f (forBoot late) (forUpdate late)) (due p refl refl (λ w. omega arith))
+  runs pass zero f late p = rw (run-due checks g f (forBoot late) (forUpdate late)) (due p refl refl (λ w. omega arith))
   runs pass (suc m) f late p = go (λ f′ late′ p′. runs pass m f′ late′ p′) (next pass f p)
     where
       go : ((f′ : List ℕ) (late′ : Bool) (p′ : Phase t f′ late′)
-          → Ran m (λ w. cost t w p′) (runFor k g m (forBoot late′) (forUpdate late′) f′))
-          → Next p → Ran (suc m) (λ w. cost t w p) (runFor k g (suc m) (forBoot late) (forUpdate late) f)
+          → Ran m (λ w. cost t w p′) (runFor checks g m (forBoot late′) (forUpdate late′) f′))
+          → Next p → Ran (suc m) (λ w. cost t w p) (runFor checks g (suc m) (forBoot late) (forUpdate late) f)
       go rec (onward s e mv) =
           let x = exchanging-turns late (mv .whole .late) b a (mv .keeps) in
           let y = exchanging-turns late (mv .whole .late) a b (mv .keeps) in
-          let ended = step-done k g f (forBoot late) (forUpdate late) s e in
-          rw (run-step k g f (forBoot late) (forUpdate late) m s e, ended, exchanged-is t p, exchanged-is t (mv .whole .phase), x, y)
+          let ended = step-done checks g f (forBoot late) (forUpdate late) s e in
+          rw (run-step checks g f (forBoot late) (forUpdate late) m s e, ended, exchanged-is t p, exchanged-is t (mv .whole .phase), x, y)
           (ran-did m (λ w. cost t w p) (λ w. cost t w (mv .whole .phase)) s
-          (runFor k g m (forBoot (mv .whole .late)) (forUpdate (mv .whole .late)) (applied g f s))
+          (runFor checks g m (forBoot (mv .whole .late)) (forUpdate (mv .whole .late)) (applied g f s))
           (λ w. omega (arith, mv .less w, mv .whole .fits w)) (rec (applied g f s) (mv .whole .late) (mv .whole .phase)))
       go rec (arrive s e ar) =
-          rw (run-last k g f (forBoot late) (forUpdate late) m s e) (done refl (ar .whole) (λ w. omega (arith, ar .less w)))
+          rw (run-last checks g f (forBoot late) (forUpdate late) m s e) (done refl (ar .whole) (λ w. omega (arith, ar .less w)))

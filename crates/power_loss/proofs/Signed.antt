@@ -22,7 +22,7 @@ use Rattle.power_loss.proofs.Images.{image-same}
 use Rattle.power_loss.proofs.Invariant.{Setting, Going, Phase, renewing, exchanging, finishing}
 use Rattle.power_loss.proofs.Runs.{forBoot, forUpdate}
 
-module _ (k : Checks) (sig : List ℕ → Bool) (g : Geometry) (f₀ o : List ℕ) where
+module _ (checks : Checks) (sig : List ℕ → Bool) (g : Geometry) (f₀ o : List ℕ) where
   abbrev a : Bool
   a = sig (imageOf g f₀ Boot)
 
@@ -30,27 +30,27 @@ module _ (k : Checks) (sig : List ℕ → Bool) (g : Geometry) (f₀ o : List �
   b = sig (imageOf g f₀ Update)
 
   abbrev u : Setting
-  u = following k g f₀ o
+  u = following checks g f₀ o
 
   pub record Answered (f : List ℕ) (late : Bool) : Type 0 where
-    pub boot : signed k sig g f₀ f Boot ≡ forBoot k g f₀ o a b late
-    pub update : signed k sig g f₀ f Update ≡ forUpdate k g f₀ o a b late
+    pub boot : signed checks sig g f₀ f Boot ≡ forBoot checks g f₀ o a b late
+    pub update : signed checks sig g f₀ f Update ≡ forUpdate checks g f₀ o a b late
 
   module _ (f : List ℕ) where
     -- in mid-swap by the flash at the start, else by the flash as it is
-    in-swap : midSwap g f ≡ true → (s : Slot) → signed k sig g f₀ f s ≡ sig (imageOf g f₀ s)
+    in-swap : midSwap g f ≡ true → (s : Slot) → signed checks sig g f₀ f s ≡ sig (imageOf g f₀ s)
     unfolding signed
     in-swap e s = rw e
 
-    out-of-swap : midSwap g f ≡ false → (s : Slot) → signed k sig g f₀ f s ≡ sig (imageOf g f s)
+    out-of-swap : midSwap g f ≡ false → (s : Slot) → signed checks sig g f₀ f s ≡ sig (imageOf g f s)
     unfolding signed
     out-of-swap e s = rw e
 
-    untouched : midSwap g f ≡ false → Contents k g f₀ 0 f → Answered f false
+    untouched : midSwap g f ≡ false → Contents checks g f₀ 0 f → Answered f false
     untouched e c = record { boot = is Boot; update = is Update }
       where
-        is : (s : Slot) → signed k sig g f₀ f s ≡ sig (imageOf g f₀ s)
-        is s = out-of-swap e s ∙ ap sig (image-same g f f₀ s s (contents-new k g f₀ f c s))
+        is : (s : Slot) → signed checks sig g f₀ f s ≡ sig (imageOf g f₀ s)
+        is s = out-of-swap e s ∙ ap sig (image-same g f f₀ s s (contents-new checks g f₀ f c s))
 
   module _ (f : List ℕ) {p : ℕ} (h : Going u p f) where
     said : Says (g .count) p (flags (g .count) (trailerOf g f Update))
@@ -69,7 +69,7 @@ module _ (k : Checks) (sig : List ℕ → Bool) (g : Geometry) (f₀ o : List �
       let m : midSwap g f ≡ true = mid-is f h ∙ rw (ne-eqb (suc p) 0 (omega arith), ne-eqb (suc p) (3 * g .count) (omega arith)) in
       record { boot = in-swap f m Boot; update = in-swap f m Update }
   answers f (finishing h) =
-      let c = contents-end k g f₀ f (h .held) in
+      let c = contents-end checks g f₀ f (h .held) in
       let m : midSwap g f ≡ false = mid-is f h ∙ rw (eq-eqb (3 * g .count) (3 * g .count) refl) (no-more (not (eqb (3 * g .count) 0))) in
       record {
         boot = out-of-swap f m Boot ∙ ap sig (image-same g f f₀ Boot Update (c Boot));

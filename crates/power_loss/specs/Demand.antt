@@ -46,7 +46,7 @@ GoesOn (A.LastStep s) = Unit {0}
 GoesOn (A.Boot why) = why ≡ 0
 GoesOn (A.Refused n) = ⊥
 
-module _ (k : Checks) (sig : List ℕ → Bool) (g : Geometry) where
+module _ (checks : Checks) (sig : List ℕ → Bool) (g : Geometry) where
   -- ---- the premises: of the rest of the flash nothing is assumed
 
   pub record MayBegin (f : List ℕ) : Type 0 where
@@ -54,8 +54,8 @@ module _ (k : Checks) (sig : List ℕ → Bool) (g : Geometry) where
     -- trigger says finished: so the geometry is accepted, and BOOT isn't on trial
     pub finished : triggerAnswer g f ≡ Finished
     -- both images pass, and UPDATE's may replace BOOT's
-    pub passes : (s : Slot) → k .verdict (imageOf g f s) (sig (imageOf g f s)) ≡ 0
-    pub replaces : k .acceptance (imageOf g f Boot) (imageOf g f Update) ≡ 0
+    pub passes : (s : Slot) → checks .verdict (imageOf g f s) (sig (imageOf g f s)) ≡ 0
+    pub replaces : checks .acceptance (imageOf g f Boot) (imageOf g f Update) ≡ 0
 
   -- ---- the conclusions, since the flash f
 
@@ -66,11 +66,11 @@ module _ (k : Checks) (sig : List ℕ → Bool) (g : Geometry) where
   -- After any cuts in a list that began with f₀ no byte outside the areas has changed, a power-up can be cut wherever its run is (so that
   -- no list is left out), and an uncut one boots with no reason.
   pub record Safe (f f₀ : List ℕ) : Type 0 where
-    pub kept : {h : List Event} {f′ : List ℕ} → Cuts k sig g f₀ h f′ → Kept g f f′
-    pub goes-on : {h : List Event} {f′ : List ℕ} (m : ℕ) (c : StepCounts) → Cuts k sig g f₀ h f′ → m < 4096 → roomy c ≡ true
-        → GoesOn (powerUp k sig g f₀ m f′ c .answer)
-    pub boots : {h : List Event} {f′ : List ℕ} (c : StepCounts) → Cuts k sig g f₀ h f′ → roomy c ≡ true
-        → powerUp k sig g f₀ 4096 f′ c .answer ≡ A.Boot 0
+    pub kept : {h : List Event} {f′ : List ℕ} → Cuts checks sig g f₀ h f′ → Kept g f f′
+    pub goes-on : {h : List Event} {f′ : List ℕ} (m : ℕ) (c : StepCounts) → Cuts checks sig g f₀ h f′ → m < 4096 → roomy c ≡ true
+        → GoesOn (powerUp checks sig g f₀ m f′ c .answer)
+    pub boots : {h : List Event} {f′ : List ℕ} (c : StepCounts) → Cuts checks sig g f₀ h f′ → roomy c ≡ true
+        → powerUp checks sig g f₀ 4096 f′ c .answer ≡ A.Boot 0
 
   -- the second list has ended with f₂
   pub record Returned (f : List ℕ) (h : List Event) (f₂ : List ℕ) : Type 0 where
@@ -85,15 +85,15 @@ module _ (k : Checks) (sig : List ℕ → Bool) (g : Geometry) where
     pub exchanged : Exchanged g f f₁
     pub kept : Kept g f f₁
     pub safe : Safe f f₁
-    pub second : {h₂ : List Event} {f₂ : List ℕ} → Ended k sig g f₁ h₂ f₂ → Returned f h₂ f₂
+    pub second : {h₂ : List Event} {f₂ : List ℕ} → Ended checks sig g f₁ h₂ f₂ → Returned f h₂ f₂
 
   pub record Survives (f : List ℕ) : Type 0 where
     pub safe : Safe f f
-    pub first : {h₁ : List Event} {f₁ : List ℕ} → Ended k sig g f h₁ f₁ → Updated f h₁ f₁
+    pub first : {h₁ : List Event} {f₁ : List ℕ} → Ended checks sig g f h₁ f₁ → Updated f h₁ f₁
 
 -- for every verdict and every acceptance rule
 abbrev pub DemandThree : Type 0
-DemandThree = (k : Checks) (sig : List ℕ → Bool) (g : Geometry) (f : List ℕ) → MayBegin k sig g f → Survives k sig g f
+DemandThree = (checks : Checks) (sig : List ℕ → Bool) (g : Geometry) (f : List ℕ) → MayBegin checks sig g f → Survives checks sig g f
 
 -- with the loader's own: both images pass verification, and UPDATE's version is the higher
 pub record Triggered (sig : List ℕ → Bool) (g : Geometry) (f : List ℕ) : Type 0 where

@@ -1,4 +1,4 @@
--- Demand 3: power-ups, and lists of them. k are the checks of images, sig is the signature checker, a function of the image.
+-- Demand 3: power-ups, and lists of them. checks are the checks of images, sig is the signature checker, a function of the image.
 use Prim.Native.Nat.{ℕ, _<_}
 use mathlib.Core.Bool.{Bool, true, false, cond, _&&_}
 use mathlib.Core.List.{List, [], _∷_, _++_}
@@ -25,14 +25,14 @@ pub data Due : Answer → Step → Bool → Type 0 where
   ordinary : (s : Step) → Due (A.Step s) s false
   last : (s : Step) → Due (A.LastStep s) s true
 
-module _ (k : Checks) (sig : List ℕ → Bool) (g : Geometry) where
+module _ (checks : Checks) (sig : List ℕ → Bool) (g : Geometry) where
   -- the checker's answer for a slot at a power-up with the flash f, in a list that began with f₀: in mid-swap by the slots before that swap
   unfoldable pub signed : List ℕ → List ℕ → Slot → Bool
   signed f₀ f s = sig (imageOf g (cond (midSwap g f) f₀ f) s)
 
   -- a power-up is one run with those answers; uncut, with the number 4096
   unfoldable pub powerUp : List ℕ → ℕ → List ℕ → StepCounts → Outcome
-  powerUp f₀ m f c = runOf k g m (signed f₀ f Boot) (signed f₀ f Update) f c
+  powerUp f₀ m f c = runOf checks g m (signed f₀ f Boot) (signed f₀ f Update) f c
 
   -- a cut after what a run with a smaller number leaves: the event, the flash left, and whether it counts as a boot
   pub data Lost (o : Outcome) : Event → List ℕ → Bool → Type 0 where

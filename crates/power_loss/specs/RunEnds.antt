@@ -19,9 +19,9 @@ IsEnd (A.LastStep s) = ⊥
 IsEnd (A.Boot why) = Unit {0}
 IsEnd (A.Refused n) = Unit {0}
 
-pub record Ends (k : Checks) (g : Geometry) (a b : Bool) (f : List ℕ) (c : StepCounts) : Type 0 where
-  pub steps : (m : ℕ) → length (runOf k g m a b f c .steps) ≤ 2 * (9 * g .count + 4)
-  pub ends : IsEnd (runOf k g 4096 a b f c .answer)
+pub record Ends (checks : Checks) (g : Geometry) (a b : Bool) (f : List ℕ) (c : StepCounts) : Type 0 where
+  pub steps : (m : ℕ) → length (runOf checks g m a b f c .steps) ≤ 2 * (9 * g .count + 4)
+  pub ends : IsEnd (runOf checks g 4096 a b f c .answer)
 
 abbrev pub RunEnds : Type 0
-RunEnds = (k : Checks) (g : Geometry) (a b : Bool) (f : List ℕ) (c : StepCounts) → Bytes f → Ends k g a b f c
+RunEnds = (checks : Checks) (g : Geometry) (a b : Bool) (f : List ℕ) (c : StepCounts) → Bytes f → Ends checks g a b f c

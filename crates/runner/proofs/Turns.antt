@@ -34,18 +34,18 @@ module _ {c₀ : StepCounts} {o : Outcome} where
   unfolding countedAll
   counted-once s e = record { answer = e .answer; flash = e .flash; counts = e .counts }
 
-module _ (k : Checks) (g : Geometry) (n : ℕ) (a b : Bool) (f : List ℕ) {c₀ : StepCounts} {o : Outcome} {c : StepCounts}
-    (inv : Same c₀ o c (runFor k g n a b f)) where
-  pub due : {x : Answer} → n < 1 → x ≡ nextStep k g f a b → Left c₀ o x f c
+module _ (checks : Checks) (g : Geometry) (n : ℕ) (a b : Bool) (f : List ℕ) {c₀ : StepCounts} {o : Outcome} {c : StepCounts}
+    (inv : Same c₀ o c (runFor checks g n a b f)) where
+  pub due : {x : Answer} → n < 1 → x ≡ nextStep checks g f a b → Left c₀ o x f c
   unfolding runFor
   due h e = let z : n ≡ 0 = omega arith in ended (rw (z, ← e) at inv)
 
-  module _ {x : Answer} {f′ : List ℕ} (pos : 0 < n) (e : x ≡ nextStep k g f a b) (p : f′ ≡ afterAnswer g f x) where
-    met : Same c₀ o c (meets g (runFor k g (n - 1)) a b f x)
+  module _ {x : Answer} {f′ : List ℕ} (pos : 0 < n) (e : x ≡ nextStep checks g f a b) (p : f′ ≡ afterAnswer g f x) where
+    met : Same c₀ o c (meets g (runFor checks g (n - 1)) a b f x)
     unfolding runFor
     met = go n pos inv
       where
-        go : (m : ℕ) → 0 < m → Same c₀ o c (runFor k g m a b f) → Same c₀ o c (meets g (runFor k g (m - 1)) a b f x)
+        go : (m : ℕ) → 0 < m → Same c₀ o c (runFor checks g m a b f) → Same c₀ o c (meets g (runFor checks g (m - 1)) a b f x)
         go zero h i = absurd (omega arith)
         go (suc m) h i = rw (sub-one, e) i
 
@@ -62,6 +62,6 @@ module _ (k : Checks) (g : Geometry) (n : ℕ) (a b : Bool) (f : List ℕ) {c₀
     met-refused q = rw (p, q) (ended (rw q at met))
 
     pub met-step : {s : Step} {c′ : StepCounts} {turned a′ b′ : Bool} → x ≡ A.Step s → turned ≡ turns g f x → c′ ≡ counted c s
-        → a′ ≡ cond turned b a → b′ ≡ cond turned a b → Same c₀ o c′ (runFor k g (n - 1) a′ b′ f′)
+        → a′ ≡ cond turned b a → b′ ≡ cond turned a b → Same c₀ o c′ (runFor checks g (n - 1) a′ b′ f′)
     unfolding meets
     met-step {s} q w y u v = rw (y, u, v, w, p, q) (counted-once s (rw q at met))

@@ -66,8 +66,8 @@ meets g more a b f (A.Refused n) = ends (A.Refused n) f
 
 -- up to a number of steps; with the number used up, the step due
 unfoldable pub runFor : Checks → Geometry → ℕ → Rest
-runFor k g zero a b f = ends (nextStep k g f a b) f
-runFor k g (suc m) a b f = meets g (runFor k g m) a b f (nextStep k g f a b)
+runFor checks g zero a b f = ends (nextStep checks g f a b) f
+runFor checks g (suc m) a b f = meets g (runFor checks g m) a b f (nextStep checks g f a b)
 
 -- the number that a run is refused with before its first step, 0 for none: the geometry's, 29, 28
 unfoldable pub runCheck : Geometry → ℕ → ℕ → StepCounts → ℕ
@@ -76,5 +76,5 @@ runCheck g len number c =
 
 -- a run on every input
 unfoldable pub runOf : Checks → Geometry → ℕ → Bool → Bool → List ℕ → StepCounts → Outcome
-runOf k g number a b f c =
-    let r : ℕ = runCheck g (length f) number c in cond (eqb r 0) (runFor k g number a b f) (ends (A.Refused r) f)
+runOf checks g number a b f c =
+    let r : ℕ = runCheck g (length f) number c in cond (eqb r 0) (runFor checks g number a b f) (ends (A.Refused r) f)
