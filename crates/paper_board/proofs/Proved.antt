@@ -33,7 +33,7 @@ use Rattle.loader.specs.Decisions.{bootOr, goBack, passedOver, spend, finish, s
 use Rattle.loader.specs.Requests.{swapBegun, triggering, triggerAnswer}
 use Rattle.loader.specs.declared.answers.Answer.the-variants as A
 use Rattle.runner.specs.Counts.{roomy, countsCheck}
-use Rattle.runner.specs.Runs.{Outcome, exchanged, meets, runFor, runCheck, runOf}
+use Rattle.runner.specs.Runs.{Outcome, allUpdated, meets, runFor, runCheck, runOf}
 use Rattle.power_loss.specs.Demand.{Triggered}
 use Rattle.power_loss.proofs.Claim.{nothing-is-lost}
 use Rattle.paper_board.specs.Board.{covered, image, digestOne, digestTwo, one, two, geometry, board, signedAll, unused, run}
@@ -132,7 +132,7 @@ record Ran (o : Outcome) : Type 0 where
 
 looked-run : Ran (withVerdict looked)
 unfolding covered image one two board looked versionRule numberAt stepAt walkIn walk lookup tagsCheck headerCheck versionOf
-    runOf runCheck roomy countsCheck runFor meets exchanged nextStep decision stagedDecision finish spend passedOver bootOr goBack
+    runOf runCheck roomy countsCheck runFor meets allUpdated nextStep decision stagedDecision finish spend passedOver bootOr goBack
     source target nextFlag exchangeStep half withHalf flagAt flag tab flags wellFormed lowestUnfinished flagStep flagStepOf offset bytesAt imageOf
     stateAt soundWith renewedTo allButState renew same all blank overlay ands write sound placed disjoint geometryCheck sectorStart trailerByte
     markPlace closing stepCheck flashAfter

@@ -26,7 +26,7 @@ use Rattle.loader.specs.Decisions.{bootOr, goBack, passedOver, spend, finish, d
 use Rattle.loader.specs.States.{updating, spent, testing, staged, onTrial}
 use Rattle.loader.specs.declared.answers.Answer.the-variants as A
 use Rattle.loader.proofs.ByProgress.{why, at-refusal, at-progress}
-use Rattle.runner.specs.Runs.{exchanged}
+use Rattle.runner.specs.Runs.{allUpdated}
 use Rattle.power_loss.specs.RunEnds.{IsEnd}
 use Rattle.power_loss.proofs.Ends.{renewed-sound}
 use Rattle.power_loss.proofs.Invariant.{Setting, Going}
@@ -105,9 +105,9 @@ module _ (t : Setting) {p : ℕ} {f : List ℕ} (h : Going t p f) where
         decided checks g f (h .base .ok) a b ∙ rw (h .is-staged) (at-progress checks g f (h .base .ok) testing a b p is-at ∙ rw w)
 
   -- all flags are 0 just at the end
-  pub exchanged-at : exchanged g f ≡ eqb p (3 * g .count)
-  unfolding exchanged
-  exchanged-at = rw (h .is-staged) (one-to-one (g .count) .says p (flags (g .count) (trailerOf g f Update)) (h .reached) .all-updated)
+  pub all-updated-at : allUpdated g f ≡ eqb p (3 * g .count)
+  unfolding allUpdated
+  all-updated-at = rw (h .is-staged) (one-to-one (g .count) .says p (flags (g .count) (trailerOf g f Update)) (h .reached) .all-updated)
 
 -- 2
 module _ (t : Setting) {f : List ℕ} (h : Going t (3 * t .g .count) f) (checks : Checks) (a b : Bool) where

@@ -20,10 +20,10 @@ use Rattle.loader.specs.Decisions.{nextStep}
 use Rattle.loader.specs.States.{updating, spent, testing, onTrial}
 use Rattle.loader.specs.declared.answers.Answer.the-variants as A
 use Rattle.loader.proofs.ByProgress.{why}
-use Rattle.runner.specs.Runs.{exchanged, Outcome, did, meets, runFor}
+use Rattle.runner.specs.Runs.{allUpdated, Outcome, did, meets, runFor}
 use Rattle.power_loss.specs.Histories.{finishedAll, sum}
 use Rattle.power_loss.proofs.Contents.{Contents, following, contents-new, contents-end}
-use Rattle.power_loss.proofs.Decided.{back-due, not-passed-over, at-exchange, exchanged-at, finish-due, finish-last}
+use Rattle.power_loss.proofs.Decided.{back-due, not-passed-over, at-exchange, all-updated-at, finish-due, finish-last}
 use Rattle.power_loss.proofs.Ends.{renews, move-renewing, finishes, move-finishing, arrival}
 use Rattle.power_loss.proofs.Exchange.{move-exchanging}
 use Rattle.power_loss.proofs.Images.{image-same}
@@ -44,12 +44,12 @@ module _ (t : Setting) {f : List ℕ} where
   phase-base (exchanging p left e h) = h .base
   phase-base (finishing h) = h .base
 
-  -- the flash itself says whether all is exchanged
-  pub exchanged-is : {late : Bool} → Phase t f late → exchanged g f ≡ late
-  unfolding exchanged
-  exchanged-is (renewing h) = rw (h .idle)
-  exchanged-is (exchanging p left e h) = exchanged-at t h ∙ ne-eqb p (3 * g .count) (omega arith)
-  exchanged-is (finishing h) = exchanged-at t h ∙ eq-eqb (3 * g .count) (3 * g .count) refl
+  -- the flash itself says whether UPDATE is sound with 70 and all flags are 0
+  pub all-updated-is : {late : Bool} → Phase t f late → allUpdated g f ≡ late
+  unfolding allUpdated
+  all-updated-is (renewing h) = rw (h .idle)
+  all-updated-is (exchanging p left e h) = all-updated-at t h ∙ ne-eqb p (3 * g .count) (omega arith)
+  all-updated-is (finishing h) = all-updated-at t h ∙ eq-eqb (3 * g .count) (3 * g .count) refl
 
 -- ---- what any phase needs at most
 
@@ -166,7 +166,7 @@ module _ (checks : Checks) (g : Geometry) (f₀ o : List ℕ) (a b : Bool) where
           let x = exchanging-turns late (mv .whole .late) b a (mv .keeps) in
           let y = exchanging-turns late (mv .whole .late) a b (mv .keeps) in
           let ended = step-done checks g f (forBoot late) (forUpdate late) s e in
-          rw (run-step checks g f (forBoot late) (forUpdate late) m s e, ended, exchanged-is t p, exchanged-is t (mv .whole .phase), x, y)
+          rw (run-step checks g f (forBoot late) (forUpdate late) m s e, ended, all-updated-is t p, all-updated-is t (mv .whole .phase), x, y)
           (ran-did m (λ w. cost t w p) (λ w. cost t w (mv .whole .phase)) s
           (runFor checks g m (forBoot (mv .whole .late)) (forUpdate (mv .whole .late)) (applied g f s))
           (λ w. omega (arith, mv .less w, mv .whole .fits w)) (rec (applied g f s) (mv .whole .late) (mv .whole .phase)))

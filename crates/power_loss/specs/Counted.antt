@@ -3,7 +3,7 @@ use Prim.Native.Nat.{ℕ, _+_}
 use mathlib.Core.List.{List}
 use mathlib.Core.Path.{_≡_}
 use Rattle.flash.specs.declared.steps.Step.{Step}
-use Rattle.runner.specs.Counts.{countedAll}
+use Rattle.runner.specs.Counts.{withSteps}
 use Rattle.runner.specs.declared.counts.StepCounts.{StepCounts}
 use Rattle.power_loss.specs.Histories.{finishedAll, begun}
 
@@ -11,4 +11,4 @@ abbrev pub total : StepCounts → ℕ
 total c = c .erases + c .copies + c .bytes + c .marks
 
 abbrev pub StepsCounted : Type 0
-StepsCounted = (c : StepCounts) (l : List Step) → total (countedAll c l) ≡ total c + begun (finishedAll l)
+StepsCounted = (c : StepCounts) (l : List Step) → total (withSteps c l) ≡ total c + begun (finishedAll l)

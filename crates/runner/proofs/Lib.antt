@@ -1,8 +1,9 @@
 pub mod Rooms
 pub mod Turns
+pub mod Standings
 pub mod Logic
 pub mod Parameters
-pub mod Lent
 pub mod Walks
 pub mod Lending
+pub mod Passing
 pub mod Adding

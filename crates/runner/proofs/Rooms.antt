@@ -9,7 +9,7 @@ use lib.Dec.{leb}
 use Rattle.compare.proofs.Tests.{and-left, and-right}
 use Rattle.flash.specs.declared.steps.Step.{Step}
 use Rattle.flash.specs.declared.steps.Step.the-variants.{Erase, Copy, Byte, Mark}
-use Rattle.runner.specs.Counts.{counted, roomy, RoomFor}
+use Rattle.runner.specs.Counts.{withStep, roomy, RoomFor}
 use Rattle.runner.specs.declared.counts.StepCounts.{StepCounts}
 
 abbrev most : ℕ
@@ -30,8 +30,11 @@ roomy-for c n h k =
     record { erases-in = omega arith; copies-in = omega arith; bytes-in = omega arith; marks-in = omega arith }
 
 -- a step takes one from the room
-pub room-less : (c : StepCounts) (n : ℕ) (s : Step) → 0 < n → RoomFor c n → RoomFor (counted c s) (n - 1)
+pub room-less : (c : StepCounts) (n : ℕ) (s : Step) → 0 < n → RoomFor c n → RoomFor (withStep c s) (n - 1)
 room-less c n (Erase at) h r = search needs
 room-less c n (Copy from to) h r = search needs
 room-less c n (Byte at v) h r = search needs
 room-less c n (Mark at) h r = search needs
+
+pub room-fewer : (c : StepCounts) (m n : ℕ) → m ≤ n → RoomFor c n → RoomFor c m
+room-fewer c m n h r = search needs

@@ -1,4 +1,4 @@
--- The turns of a run: what is left to run leaves the same as the whole. Assumes nothing.
+-- The turns of a run: what it leaves, by what is decided and done first. Assumes nothing.
 use Prim.Native.Nat.{ℕ, zero, suc, _-_, _<_}
 use mathlib.Core.Bool.{Bool, cond}
 use mathlib.Core.List.{List}
@@ -11,57 +11,35 @@ use Rattle.loader.specs.Checks.{Checks}
 use Rattle.loader.specs.Decisions.{nextStep}
 use Rattle.loader.specs.declared.answers.Answer.{Answer}
 use Rattle.loader.specs.declared.answers.Answer.the-variants as A
-use Rattle.runner.specs.Counts.{counted, countedAll}
-use Rattle.runner.specs.Runs.{afterAnswer, turns, Outcome, ends, did, meets, runFor}
-use Rattle.runner.specs.declared.counts.StepCounts.{StepCounts}
+use Rattle.runner.specs.Runs.{afterAnswer, turns, ends, did, meets, runFor}
 
--- the outcome r from the record c on leaves what the outcome o from c₀ on leaves
-pub record Same (c₀ : StepCounts) (o : Outcome) (c : StepCounts) (r : Outcome) : Type 0 where
-  pub answer : r .answer ≡ o .answer
-  pub flash : r .flash ≡ o .flash
-  pub counts : countedAll c (r .steps) ≡ countedAll c₀ (o .steps)
-
--- an answer, a flash and a record are what the outcome o from c₀ on leaves
-abbrev pub Left : StepCounts → Outcome → Answer → List ℕ → StepCounts → Type 0
-Left c₀ o x f c = (x ≡ o .answer) × ((f ≡ o .flash) × (c ≡ countedAll c₀ (o .steps)))
-
-module _ {c₀ : StepCounts} {o : Outcome} where
-  ended : {c : StepCounts} {x : Answer} {f : List ℕ} → Same c₀ o c (ends x f) → Left c₀ o x f c
-  unfolding countedAll
-  ended e = (e .answer, (e .flash, e .counts))
-
-  counted-once : {c : StepCounts} (s : Step) {r : Outcome} → Same c₀ o c (did s r) → Same c₀ o (counted c s) r
-  unfolding countedAll
-  counted-once s e = record { answer = e .answer; flash = e .flash; counts = e .counts }
-
-module _ (checks : Checks) (g : Geometry) (n : ℕ) (a b : Bool) (f : List ℕ) {c₀ : StepCounts} {o : Outcome} {c : StepCounts}
-    (inv : Same c₀ o c (runFor checks g n a b f)) where
-  pub due : {x : Answer} → n < 1 → x ≡ nextStep checks g f a b → Left c₀ o x f c
+module _ (checks : Checks) (g : Geometry) (n : ℕ) (a b : Bool) (f : List ℕ) {x : Answer} (e : x ≡ nextStep checks g f a b) where
+  pub due : n < 1 → runFor checks g n a b f ≡ ends x f
   unfolding runFor
-  due h e = let z : n ≡ 0 = omega arith in ended (rw (z, ← e) at inv)
+  due h = let z : n ≡ 0 = omega arith in rw (z, e)
 
-  module _ {x : Answer} {f′ : List ℕ} (pos : 0 < n) (e : x ≡ nextStep checks g f a b) (p : f′ ≡ afterAnswer g f x) where
-    met : Same c₀ o c (meets g (runFor checks g (n - 1)) a b f x)
+  module _ {f′ : List ℕ} (pos : 0 < n) (p : f′ ≡ afterAnswer g f x) where
+    met : runFor checks g n a b f ≡ meets g (runFor checks g (n - 1)) a b f x
     unfolding runFor
-    met = go n pos inv
+    met = go n pos
       where
-        go : (m : ℕ) → 0 < m → Same c₀ o c (runFor checks g m a b f) → Same c₀ o c (meets g (runFor checks g (m - 1)) a b f x)
-        go zero h i = absurd (omega arith)
-        go (suc m) h i = rw (sub-one, e) i
+        go : (m : ℕ) → 0 < m → runFor checks g m a b f ≡ meets g (runFor checks g (m - 1)) a b f x
+        go zero h = absurd (omega arith)
+        go (suc m) h = rw (sub-one, e)
 
-    pub met-last : {s : Step} {c′ : StepCounts} → x ≡ A.LastStep s → c′ ≡ counted c s → Left c₀ o (A.Boot 0) f′ c′
+    pub met-last : {s : Step} → x ≡ A.LastStep s → runFor checks g n a b f ≡ did s (ends (A.Boot 0) f′)
     unfolding meets
-    met-last {s} q y = rw (p, q, y) (ended (counted-once s (rw q at met)))
+    met-last q = rw (met, p, q)
 
-    pub met-boot : {why : ℕ} → x ≡ A.Boot why → Left c₀ o x f′ c
+    pub met-boot : {why : ℕ} → x ≡ A.Boot why → runFor checks g n a b f ≡ ends x f′
     unfolding meets
-    met-boot q = rw (p, q) (ended (rw q at met))
+    met-boot q = rw (met, p, q)
 
-    pub met-refused : {number : ℕ} → x ≡ A.Refused number → Left c₀ o x f′ c
+    pub met-refused : {number : ℕ} → x ≡ A.Refused number → runFor checks g n a b f ≡ ends x f′
     unfolding meets
-    met-refused q = rw (p, q) (ended (rw q at met))
+    met-refused q = rw (met, p, q)
 
-    pub met-step : {s : Step} {c′ : StepCounts} {turned a′ b′ : Bool} → x ≡ A.Step s → turned ≡ turns g f x → c′ ≡ counted c s
-        → a′ ≡ cond turned b a → b′ ≡ cond turned a b → Same c₀ o c′ (runFor checks g (n - 1) a′ b′ f′)
+    pub met-step : {s : Step} {turned a′ b′ : Bool} → x ≡ A.Step s → turned ≡ turns g f x → a′ ≡ cond turned b a → b′ ≡ cond turned a b
+        → runFor checks g n a b f ≡ did s (runFor checks g (n - 1) a′ b′ f′)
     unfolding meets
-    met-step {s} q w y u v = rw (y, u, v, w, p, q) (counted-once s (rw q at met))
+    met-step q w u v = rw (met, u, v, w, p, q)

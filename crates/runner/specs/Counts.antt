@@ -9,16 +9,16 @@ use Rattle.flash.specs.declared.steps.Step.the-variants.{Erase, Copy, Byte, Mar
 use Rattle.runner.specs.declared.counts.StepCounts.{StepCounts}
 
 -- one finished step more
-abbrev pub counted : StepCounts → Step → StepCounts
-counted c (Erase at) = record { erases = c .erases + 1; copies = c .copies; bytes = c .bytes; marks = c .marks }
-counted c (Copy from to) = record { erases = c .erases; copies = c .copies + 1; bytes = c .bytes; marks = c .marks }
-counted c (Byte at v) = record { erases = c .erases; copies = c .copies; bytes = c .bytes + 1; marks = c .marks }
-counted c (Mark at) = record { erases = c .erases; copies = c .copies; bytes = c .bytes; marks = c .marks + 1 }
+abbrev pub withStep : StepCounts → Step → StepCounts
+withStep c (Erase at) = record { erases = c .erases + 1; copies = c .copies; bytes = c .bytes; marks = c .marks }
+withStep c (Copy from to) = record { erases = c .erases; copies = c .copies + 1; bytes = c .bytes; marks = c .marks }
+withStep c (Byte at v) = record { erases = c .erases; copies = c .copies; bytes = c .bytes + 1; marks = c .marks }
+withStep c (Mark at) = record { erases = c .erases; copies = c .copies; bytes = c .bytes; marks = c .marks + 1 }
 
 -- the finished steps of a run, in order
-unfoldable pub countedAll : StepCounts → List Step → StepCounts
-countedAll c [] = c
-countedAll c (s ∷ l) = countedAll (counted c s) l
+unfoldable pub withSteps : StepCounts → List Step → StepCounts
+withSteps c [] = c
+withSteps c (s ∷ l) = withSteps (withStep c s) l
 
 -- no counter is above 4,294,963,199: there is room for the 4096 steps of a run
 unfoldable pub roomy : StepCounts → Bool
@@ -29,12 +29,9 @@ unfoldable pub countsCheck : StepCounts → ℕ
 countsCheck c = unless (roomy c) 28 0
 
 unfoldable pub countsAfter : StepCounts → Step → StepCounts
-countsAfter c s = cond (roomy c) (counted c s) c
+countsAfter c s = cond (roomy c) (withStep c s) c
 
--- ---- the code's own: four numbers as a record, and each counter with room for n steps more
-
-abbrev pub counts4 : ℕ → ℕ → ℕ → ℕ → StepCounts
-counts4 e c b m = record { erases = e; copies = c; bytes = b; marks = m }
+-- ---- the code's own: each counter has room for n steps more
 
 pub record RoomFor (c : StepCounts) (n : ℕ) : Type 0 where
   pub erases-in : c .erases + n < 2 ^ 32

@@ -3,6 +3,7 @@
 use Prim.Native.Nat.{ℕ, zero, suc}
 use mathlib.Core.Bool.{Bool, false, cond, not, _&&_}
 use mathlib.Core.List.{List, [], _∷_}
+use mathlib.Core.Path.{_≡_}
 use lib.Dec.{eqb, leb}
 use lib.ListN.{length}
 use Rattle.compare.specs.Compare.{all}
@@ -18,12 +19,12 @@ use Rattle.loader.specs.Decisions.{nextStep}
 use Rattle.loader.specs.States.{staged}
 use Rattle.loader.specs.declared.answers.Answer.{Answer}
 use Rattle.loader.specs.declared.answers.Answer.the-variants as A
-use Rattle.runner.specs.Counts.{countsCheck}
+use Rattle.runner.specs.Counts.{withSteps, countsCheck}
 use Rattle.runner.specs.declared.counts.StepCounts.{StepCounts}
 
 -- UPDATE is sound with 70 and all flags are 0
-unfoldable pub exchanged : Geometry → List ℕ → Bool
-exchanged g f = staged g f && all updated (flags (g .count) (trailerOf g f Update))
+unfoldable pub allUpdated : Geometry → List ℕ → Bool
+allUpdated g f = staged g f && all updated (flags (g .count) (trailerOf g f Update))
 
 -- the flash after the step that is answered
 abbrev pub afterAnswer : Geometry → List ℕ → Answer → List ℕ
@@ -34,7 +35,7 @@ afterAnswer g f (A.Refused n) = f
 
 -- that step makes the last flag 0
 abbrev pub turns : Geometry → List ℕ → Answer → Bool
-turns g f (A.Step s) = not (exchanged g f) && exchanged g (flashAfter g f s)
+turns g f (A.Step s) = not (allUpdated g f) && allUpdated g (flashAfter g f s)
 turns g f (A.LastStep s) = false
 turns g f (A.Boot why) = false
 turns g f (A.Refused n) = false
@@ -78,3 +79,11 @@ runCheck g len number c =
 unfoldable pub runOf : Checks → Geometry → ℕ → Bool → Bool → List ℕ → StepCounts → Outcome
 runOf checks g number a b f c =
     let r : ℕ = runCheck g (length f) number c in cond (eqb r 0) (runFor checks g number a b f) (ends (A.Refused r) f)
+
+-- an answer and a flash are those that a run ends with
+abbrev pub EndsWith : Outcome → Answer → List ℕ → Type 0
+EndsWith o x f = (x ≡ o .answer) × (f ≡ o .flash)
+
+-- and a record is the one before the run, c₀, with its finished steps
+abbrev pub Leaves : StepCounts → Outcome → Answer → List ℕ → StepCounts → Type 0
+Leaves c₀ o x f c = EndsWith o x f × (c ≡ withSteps c₀ (o .steps))

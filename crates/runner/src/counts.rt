@@ -1,6 +1,6 @@
 // The record of finished steps, one counter per kind.
 ghost use mathlib.Core.Path.{_≡_};
-ghost use Rattle.runner.specs.Counts.{counted, roomy, countsCheck, countsAfter, RoomFor};
+ghost use Rattle.runner.specs.Counts.{withStep, roomy, countsCheck, countsAfter, RoomFor};
 use flash::Step;
 
 #[repr(C)]
@@ -28,9 +28,9 @@ pub(crate) fn is_roomy(counts: StepCounts) -> bool
 }
 
 // One finished step more.
-pub(crate) fn counted(counts: StepCounts, step: Step) -> StepCounts
+pub(crate) fn with_step(counts: StepCounts, step: Step) -> StepCounts
     requires { ⌜ RoomFor counts 1 ⌝ }
-    ensures { λ r. ⌜ r ≡ counted counts step ⌝ }
+    ensures { λ r. ⌜ r ≡ withStep counts step ⌝ }
 {
     let mut more = counts;
     match step {
@@ -50,7 +50,7 @@ pub fn added(counts: StepCounts, step: Step) -> Addition
     if is_roomy(counts) {
         return Addition {
             number: 0,
-            counts: counted(counts, step),
+            counts: with_step(counts, step),
         };
     }
     Addition { number: 28, counts }

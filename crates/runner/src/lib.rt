@@ -2,24 +2,34 @@
 // and the run, which decides and does up to a number of steps and counts them in the caller's record.
 // Every public function is total. A refusal before the first step changes no byte and no counter; a run's later
 // one keeps the steps done.
-mod core;
 mod counts;
 mod one_step;
+mod standing;
 
 ghost use mathlib.Core.Path.{_≡_};
 ghost use Rattle.loader.specs.Checks.{imageChecks};
-ghost use Rattle.runner.specs.Counts.{countedAll, countsCheck, countsAfter};
-ghost use Rattle.runner.specs.Runs.{runOf};
-pub use core::run_counting;
+ghost use Rattle.runner.specs.Counts.{withStep, countsCheck, countsAfter, RoomFor};
+ghost use Rattle.runner.specs.Runs.{runOf, Leaves};
 pub use counts::Addition;
 pub use counts::StepCounts;
 pub use counts::added;
+use counts::with_step;
 use flash::Geometry;
 use flash::Step;
 use loader::Answer;
 pub use one_step::Advanced;
 pub use one_step::advance;
 pub use one_step::pick;
+use standing::begin;
+use standing::proceed;
+
+// One finished step more in the caller's record.
+fn count_step(counts: &mut StepCounts, step: Step)
+    requires { ⌜ RoomFor (now counts) 1 ⌝ }
+    ensures { λ _. ⌜ now (counts .exit) ≡ withStep (now (counts .entry)) step ⌝ }
+{
+    *counts = with_step(*counts, step);
+}
 
 // Adds one finished step to the caller's record; 28 where a counter is above 4,294,963,199.
 pub fn add_step(counts: &mut StepCounts, step: Step) -> u32
@@ -40,20 +50,16 @@ pub fn run(
     number: u32,
     counts: &mut StepCounts,
 ) -> Answer
-    ensures { λ r. ⌜ (r ≡ runOf imageChecks g number «boot_signed» «update_signed» (now (flash .entry)) (now (counts .entry)) .answer)
-        × ((now (flash .exit) ≡ runOf imageChecks g number «boot_signed» «update_signed» (now (flash .entry)) (now (counts .entry)) .flash)
-        × (now (counts .exit) ≡ countedAll (now (counts .entry))
-        (runOf imageChecks g number «boot_signed» «update_signed» (now (flash .entry)) (now (counts .entry)) .steps))) ⌝ }
+    ensures { λ r. ⌜ Leaves (now (counts .entry)) (runOf imageChecks g number «boot_signed» «update_signed» (now (flash .entry)) (now (counts .entry)))
+        r (now (flash .exit)) (now (counts .exit)) ⌝ }
 {
-    run_counting(
-        flash,
-        g,
-        boot_signed,
-        update_signed,
-        number,
-        &mut counts.erases,
-        &mut counts.copies,
-        &mut counts.bytes,
-        &mut counts.marks,
-    )
+    let mut at = begin(g, flash.len(), boot_signed, update_signed, number, *counts);
+    loop {
+        at = proceed(flash, g, at);
+        if at.did {
+            count_step(counts, at.step);
+        } else {
+            return at.answer;
+        }
+    }
 }

@@ -5,7 +5,7 @@ ghost use lib.ListN.{length};
 ghost use Rattle.flash.specs.Geometry.{geometryCheck};
 ghost use Rattle.loader.specs.Checks.{imageChecks};
 ghost use Rattle.loader.specs.Decisions.{nextStep};
-ghost use Rattle.runner.specs.Runs.{exchanged, afterAnswer, turns};
+ghost use Rattle.runner.specs.Runs.{allUpdated, afterAnswer, turns};
 use flash::Geometry;
 use flash::Step;
 use flash::apply_step;
@@ -24,9 +24,9 @@ pub struct Advanced {
 }
 
 // Whether UPDATE is sound with 70 and all flags are 0.
-fn is_exchanged(flash: &[u8], g: Geometry) -> bool
+fn is_all_updated(flash: &[u8], g: Geometry) -> bool
     requires { ⌜ geometryCheck g (length (now flash)) ≡ 0 ⌝ }
-    ensures { λ r. ⌜ r ≡ exchanged g (now (flash .entry)) ⌝ }
+    ensures { λ r. ⌜ r ≡ allUpdated g (now (flash .entry)) ⌝ }
 {
     if slots::is_sound_with(flash, g, Slot::Update, UPDATING) {
         match slots::progress(flash, g) {
@@ -44,44 +44,36 @@ pub fn pick(which: bool, yes: bool, no: bool) -> bool
     if which { yes } else { no }
 }
 
+// Carries out the step that is answered, and says whether it made the last flag 0.
+pub(crate) fn carry_out(flash: &mut [u8], g: Geometry, answer: Answer) -> bool
+    ensures { λ r. ⌜ (now (flash .exit) ≡ afterAnswer g (now (flash .entry)) answer) × (r ≡ turns g (now (flash .entry)) answer) ⌝ }
+{
+    match answer {
+        Answer::Step(step) => {
+            if check_geometry(g, flash.len()) != 0 {
+                return false;
+            }
+            let before = is_all_updated(flash, g);
+            apply_step(flash, g, step);
+            let after = is_all_updated(flash, g);
+            !before & after
+        }
+        Answer::LastStep(step) => {
+            apply_step(flash, g, step);
+            false
+        }
+        Answer::Boot(_) => false,
+        Answer::Refused(_) => false,
+    }
+}
+
 // Decides the next step and carries it out; a boot or a refusal changes nothing.
 pub fn advance(flash: &mut [u8], g: Geometry, boot_signed: bool, update_signed: bool) -> Advanced
     ensures { λ r. ⌜ (r .answer ≡ nextStep imageChecks g (now (flash .entry)) «boot_signed» «update_signed»)
         × ((now (flash .exit) ≡ afterAnswer g (now (flash .entry)) (r .answer))
         × (r .turned ≡ turns g (now (flash .entry)) (r .answer))) ⌝ }
 {
-    let number = check_geometry(g, flash.len());
-    if number != 0 {
-        return Advanced {
-            answer: Answer::Refused(number),
-            turned: false,
-        };
-    }
     let answer = next_step(flash, g, boot_signed, update_signed);
-    match answer {
-        Answer::Step(step) => {
-            let before = is_exchanged(flash, g);
-            apply_step(flash, g, step);
-            let after = is_exchanged(flash, g);
-            Advanced {
-                answer,
-                turned: !before & after,
-            }
-        }
-        Answer::LastStep(step) => {
-            apply_step(flash, g, step);
-            Advanced {
-                answer,
-                turned: false,
-            }
-        }
-        Answer::Boot(_) => Advanced {
-            answer,
-            turned: false,
-        },
-        Answer::Refused(_) => Advanced {
-            answer,
-            turned: false,
-        },
-    }
+    let turned = carry_out(flash, g, answer);
+    Advanced { answer, turned }
 }

@@ -1,8 +1,7 @@
 // Document 01's simulator. Reads a record of 24 bytes and the flash from standard input, runs with the number
 // 4096, and prints each step begun, then BOOT and the version of BOOT's image, or REFUSE and the number.
-ghost use mathlib.Core.Path.{_≡_};
 ghost use Rattle.loader.specs.Checks.{imageChecks};
-ghost use Rattle.runner.specs.Runs.{runFor};
+ghost use Rattle.runner.specs.Runs.{runFor, EndsWith};
 ghost use Rattle.simulator.specs.Input.{simulated};
 use board_records::boot_signed;
 use board_records::geometry;
@@ -31,8 +30,7 @@ fn show_run(
     update_signed: bool,
     number: u32,
 ) -> Answer
-    ensures { λ r. ⌜ (r ≡ runFor imageChecks g number «boot_signed» «update_signed» (now (flash .entry)) .answer)
-        × (now (flash .exit) ≡ runFor imageChecks g number «boot_signed» «update_signed» (now (flash .entry)) .flash) ⌝ }
+    ensures { λ r. ⌜ EndsWith (runFor imageChecks g number «boot_signed» «update_signed» (now (flash .entry))) r (now (flash .exit)) ⌝ }
 {
     let mut left = number;
     let mut a = boot_signed;
@@ -62,8 +60,7 @@ fn show_run(
 
 // The run on the input as it was read; 5 where the record is not whole or the flash is too long.
 fn simulate(record: &[u8], flash: &mut [u8]) -> Answer
-    ensures { λ r. ⌜ (r ≡ simulated (now («record» .entry)) (now (flash .entry)) .answer)
-        × (now (flash .exit) ≡ simulated (now («record» .entry)) (now (flash .entry)) .flash) ⌝ }
+    ensures { λ r. ⌜ EndsWith (simulated (now («record» .entry)) (now (flash .entry))) r (now (flash .exit)) ⌝ }
 {
     if record.len() < RECORD {
         return Answer::Refused(5);

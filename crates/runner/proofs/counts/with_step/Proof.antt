@@ -1,6 +1,6 @@
 use borrow.Author.Needs.{needs}
-use Rattle.runner.proofs.counts.counted.Statement.{statement}
-use Rattle.runner.proofs.counts.counted.Tie as tie
+use Rattle.runner.proofs.counts.with_step.Statement.{statement}
+use Rattle.runner.proofs.counts.with_step.Tie as tie
 
 returns : tie.Need-returns
 returns c = rw (c .before .enum-told .given .1)
@@ -14,7 +14,7 @@ returns-3 c = rw (c .before .enum-told3 .given .1)
 returns-4 : tie.Need-returns-4
 returns-4 c = rw (c .before .enum-told4 .given .1)
 
-pub counted-spec : {M : Type 1} → statement M
-counted-spec =
+pub with-step-spec : {M : Type 1} → statement M
+with-step-spec =
     tie.close (tie.spec (λ c. search needs) (λ c. search needs) (λ c. search needs) (λ c. search needs) (λ c. search needs) (λ c. search needs)
     (λ c. search needs) (λ c. search needs) returns returns-2 returns-3 returns-4)

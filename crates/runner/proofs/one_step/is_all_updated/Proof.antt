@@ -4,15 +4,15 @@ use borrow.Author.Needs.{needs}
 use Rattle.flash.proofs.Areas.{valid}
 use Rattle.slots.proofs.Answered.{sound-told, progress-told}
 use Rattle.slots.proofs.Reached.{updated-refused, flags-says}
-use Rattle.runner.specs.Runs.{exchanged}
-use Rattle.runner.proofs.one_step.is_exchanged.Statement.{statement}
-use Rattle.runner.proofs.one_step.is_exchanged.Tie as tie
+use Rattle.runner.specs.Runs.{allUpdated}
+use Rattle.runner.proofs.one_step.is_all_updated.Statement.{statement}
+use Rattle.runner.proofs.one_step.is_all_updated.Tie as tie
 
 mul-result : tie.Need-mul-result
 mul-result c = let v = valid _ _ (c .before .before .before .before .before .before .before .before .pre) .shape in omega (arith, v .count-max)
 
 returns : tie.Need-returns
-unfolding exchanged
+unfolding allUpdated
 returns c =
     let p = c .before .before .before .before in
     let s = p .before .before in
@@ -24,7 +24,7 @@ returns c =
     )
 
 returns-2 : tie.Need-returns-2
-unfolding exchanged
+unfolding allUpdated
 returns-2 c =
     let p = c .before .before in
     let s = p .before .before in
@@ -36,9 +36,9 @@ returns-2 c =
     )
 
 returns-3 : tie.Need-returns-3
-unfolding exchanged
+unfolding allUpdated
 returns-3 c = rw (sound-told _ _ (c .before .before .before .pre) _ _ _ (c .before .is-sound-with .ensures), c .if1 .left)
 
-pub is-exchanged-spec : {M : Type 1} → statement M
-is-exchanged-spec =
+pub is-all-updated-spec : {M : Type 1} → statement M
+is-all-updated-spec =
     tie.close (tie.spec (λ c κs. search needs) (λ c κs. search needs) (λ c. search needs) mul-result returns (λ c. search needs) returns-2 returns-3)

@@ -8,12 +8,12 @@ use lib.Dec.{eqb, leb}
 use Rattle.compare.proofs.Tests.{never}
 use Rattle.flash.specs.Geometry.{unless, geometryCheck}
 use Rattle.flash.specs.declared.geometry.Geometry.{Geometry}
-use Rattle.runner.specs.Counts.{countedAll, roomy, countsCheck, RoomFor}
+use Rattle.runner.specs.Counts.{roomy, countsCheck, RoomFor}
 use Rattle.runner.specs.Runs.{runCheck, runOf}
 use Rattle.runner.specs.declared.counts.StepCounts.{StepCounts}
 use Rattle.runner.proofs.Rooms.{roomy-for}
-use Rattle.runner.proofs.core.run_counting.Statement.{statement}
-use Rattle.runner.proofs.core.run_counting.Tie as tie
+use Rattle.runner.proofs.standing.begin.Statement.{statement}
+use Rattle.runner.proofs.standing.begin.Tie as tie
 
 -- a run that is not refused has room for its steps
 run-room : (g : Geometry) (len number : ℕ) (c : StepCounts) → runCheck g len number c ≡ 0 → RoomFor c number
@@ -28,21 +28,18 @@ run-room g len number c = go (eqb (geometryCheck g len) 0) (leb number 4096) (ro
     go false y z p q r e = never (sym (eq-eqb (geometryCheck g len) 0 e) ∙ p)
 
 returns : tie.Need-returns
-unfolding runOf countedAll
-returns c = rw (← c .before .check-run .ensures, ne-eqb _ _ (c .if1 .taken)) (refl, (refl, refl))
-
-run-steps-requires : tie.Need-run-steps-requires
-run-steps-requires c κs =
-    let e = c .before .before .before .before .before in
-    run-room _ _ _ _ (sym (e .before .check-run .ensures) ∙ e .if1 .left)
+unfolding runOf
+returns c =
+    let e = c .end .ensures .1 .1 in
+    let r = c .before .before .check-run .ensures in
+    (λ f l. rw (e .0, e .1 .0, l, ← r, ne-eqb _ _ (c .before .if1 .taken)), λ h. absurd (omega (arith, h, e .1 .1)))
 
 returns-2 : tie.Need-returns-2
 unfolding runOf
 returns-2 c =
-    let s = c .before .before in
-    let e = s .before .before .before .before .before .before in
-    rw (← e .before .check-run .ensures, eq-eqb _ _ (e .if1 .left)) (s .run-steps .ensures)
+    let r = c .before .check-run .ensures in
+    (λ f l. rw (l, ← r, eq-eqb _ _ (c .if1 .left)), λ h. run-room _ _ _ _ (sym r ∙ c .if1 .left))
 
-pub run-counting-spec : {M : Type 1} → statement M
-run-counting-spec =
-    tie.close (tie.spec (λ c κs. search needs) returns run-steps-requires (λ c. search needs) returns-2)
+pub begin-spec : {M : Type 1} → statement M
+begin-spec =
+    tie.close (tie.spec (λ c κs. search needs) (λ c κs. search needs) returns returns-2)

@@ -3,8 +3,8 @@ use borrow.Author.Needs.{needs}
 use borrow.Author.Tests.{le-leb, lt-leb, eq-eqb, ne-eqb}
 use Rattle.runner.specs.Counts.{countsCheck}
 use Rattle.runner.specs.Runs.{runCheck}
-use Rattle.runner.proofs.core.check_run.Statement.{statement}
-use Rattle.runner.proofs.core.check_run.Tie as tie
+use Rattle.runner.proofs.standing.check_run.Statement.{statement}
+use Rattle.runner.proofs.standing.check_run.Tie as tie
 
 returns : tie.Need-returns
 unfolding runCheck
