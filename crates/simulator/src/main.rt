@@ -22,7 +22,7 @@ const RECORD: usize = 24;
 
 const MOST_FLASH: usize = 65_536;
 
-// A run that prints its steps. The bounded run goes by the same function, `advance`.
+// A run that prints its steps.
 fn show_run(
     flash: &mut [u8],
     g: Geometry,
