@@ -1,19 +1,21 @@
-// The entries of the run, and of the record in which it counts its steps. Each passes on or copies the
-// caller's record and decides nothing itself.
+// The entries of the run, and of the record in which it counts its steps. Each passes the
+// caller's record on and decides nothing itself.
+ghost use mathlib.Core.Bool.{cond};
 ghost use mathlib.Core.Path.{_≡_};
 ghost use Rattle.loader.specs.Checks.{imageChecks};
 ghost use Rattle.runner.specs.Runs.{runOf};
 ghost use Rattle.frondicare.specs.Additions.{stepBy, additionCheck, countsLeft};
 ghost use Rattle.frondicare.specs.Answers.{FlatLeaves};
 ghost use Rattle.frondicare.specs.Steps.{geometryOf};
+ghost use Rattle.frondicare.specs.declared.flash_entries.OptionalStep.the-variants.{Some, None};
 use crate::flash_entries::OptionalStep;
 use crate::flash_entries::geometry_of;
 use crate::flash_entries::step_of;
 use crate::loader_entries::FlatAnswer;
 use crate::loader_entries::flat_answer;
-use runner::Addition;
+use flash::Step;
 use runner::StepCounts;
-use runner::added;
+use runner::add_step;
 use runner::run;
 
 // Decides and does up to a number of steps, each counted in the caller's record as it is done.
@@ -37,12 +39,21 @@ pub extern "C" fn frondicare_run(
     flat_answer(run(flash, g, boot_signed, update_signed, number, counts))
 }
 
-fn added_op(counts: StepCounts, op: u32) -> Addition
-    ensures { λ r. ⌜ (r .number ≡ additionCheck counts (stepBy op)) × (r .counts ≡ countsLeft counts (stepBy op)) ⌝ }
+// Whether an op stands for a step, and that step.
+struct AskedStep {
+    known: bool,
+    step: Step,
+}
+
+fn asked_step(op: u32) -> AskedStep
+    ensures { λ r. ⌜ stepBy op ≡ cond (r .known) (Some (r .step)) None ⌝ }
 {
     match step_of(op, 0, 0, 0) {
-        OptionalStep::Some(step) => added(counts, step),
-        OptionalStep::None => Addition { number: 24, counts },
+        OptionalStep::Some(step) => AskedStep { known: true, step },
+        OptionalStep::None => AskedStep {
+            known: false,
+            step: Step::Erase(0),
+        },
     }
 }
 
@@ -52,7 +63,10 @@ fn added_op(counts: StepCounts, op: u32) -> Addition
 pub extern "C" fn frondicare_add_step(counts: &mut StepCounts, op: u32) -> u32
     ensures { λ r. ⌜ (r ≡ additionCheck (now (counts .entry)) (stepBy op)) × (now (counts .exit) ≡ countsLeft (now (counts .entry)) (stepBy op)) ⌝ }
 {
-    let done = added_op(*counts, op);
-    *counts = done.counts;
-    done.number
+    let asked = asked_step(op);
+    if asked.known {
+        add_step(counts, asked.step)
+    } else {
+        24
+    }
 }

@@ -48,8 +48,8 @@ module _ (b o : ℕ) where
   abbrev pub ownsFlash : Lft → GName → List ℕ → Fml
   ownsFlash κ γ ys = MutSlice (named 0) κ u8 .own (flashAt γ ys) (sliceVal (b, o) (length ys) ∷ [])
 
-  abbrev pub ownsCounts : ℕ → Lft → GName → StepCounts → Fml
-  ownsCounts ℓ κ γ h = MutRef (named ℓ) κ T.the-row .own (countsAt γ h) (vptr b o ∷ [])
+  abbrev pub ownsCounts : Lft → GName → StepCounts → Fml
+  ownsCounts κ γ h = MutRef (named 0) κ T.the-row .own (countsAt γ h) (vptr b o ∷ [])
 
   -- what the holder keeps of a flash while it is lent
   abbrev pub FlashLent : Lft → Lft → Share → GName → GName → List ℕ → Fml
@@ -99,29 +99,29 @@ module _ (b o : ℕ) where
         use3 W (later (‵ (ownsFlash κ γ zs) ⊛ ‵ (flft κ q))) (back 𝓤 H A W κ (ν ∷ []) q γ ys δ zs room e) $ await t z $ split t $ s)
 
     pub lends-counts : K → Soaks G → {κ : Lft} {q : Share} {γ : GName} {h : StepCounts}
-        → ((ν : ℕ) (δ : GName) → Seq K W (‵ (flft (ν ∷ []) fullShare) ∷ ‵ (ownsCounts 0 (ν ∷ []) δ h) ∷ ‵ (CountsLent κ (ν ∷ []) q γ δ h) ∷ Γ) G)
-        → Seq K W (‵ (ownsCounts 1 κ γ h) ∷ ‵ (flft κ q) ∷ Γ) G
+        → ((ν : ℕ) (δ : GName) → Seq K W (‵ (flft (ν ∷ []) fullShare) ∷ ‵ (ownsCounts (ν ∷ []) δ h) ∷ ‵ (CountsLent κ (ν ∷ []) q γ δ h) ∷ Γ) G)
+        → Seq K W (‵ (ownsCounts κ γ h) ∷ ‵ (flft κ q) ∷ Γ) G
     lends-counts t z {κ} {q} {γ} {h} k = lft-new t z (λ ν. move t (1 ∷ 2 ∷ []) $
-        use2 W (later (some (λ (δ : GName). ‵ (ownsCounts 0 (ν ∷ []) δ h) ⊛ ‵ (CountsLent κ (ν ∷ []) q γ δ h))))
-        (L.lends-again 𝓤 H A W T.the-row (named 1) κ (ν ∷ []) q γ b o (named 0) h) $
+        use2 W (later (some (λ (δ : GName). ‵ (ownsCounts (ν ∷ []) δ h) ⊛ ‵ (CountsLent κ (ν ∷ []) q γ δ h))))
+        (L.lends-again 𝓤 H A W T.the-row (named 0) κ (ν ∷ []) q γ b o (named 0) h) $
         await t z $ pick t (λ δ. split t $ move t (2 ∷ 0 ∷ 1 ∷ []) $ k ν δ))
 
     pub counts-back : K → Soaks G → {κ : Lft} {q : Share} {γ δ : GName} {h : StepCounts} {ν : ℕ} (h′ : StepCounts)
-        → Step K W (‵ (ownsCounts 1 κ γ h′) ∷ ‵ (flft κ q) ∷ Γ) G
+        → Step K W (‵ (ownsCounts κ γ h′) ∷ ‵ (flft κ q) ∷ Γ) G
         (‵ (flft (ν ∷ []) fullShare) ∷ ‵ (CountsLent κ (ν ∷ []) q γ δ h) ∷ ‵ (fres δ (T.the-row .coded .code h′)) ∷ Γ) G
     counts-back t z {κ} {q} {γ} {δ} {h} {ν} h′ = step (λ s. lft-end t z $
-        use3 W (later (‵ (ownsCounts 1 κ γ h′) ⊛ ‵ (flft κ q))) (L.comes-back 𝓤 H A W T.the-row (named 1) κ (ν ∷ []) q γ b o δ h h′) $ await t z $ split t $ s)
+        use3 W (later (‵ (ownsCounts κ γ h′) ⊛ ‵ (flft κ q))) (L.comes-back 𝓤 H A W T.the-row (named 0) κ (ν ∷ []) q γ b o δ h h′) $ await t z $ split t $ s)
 
 module _ (b : ℕ) {M : Type 1} {𝓤 : URA M} {H : Heap 𝓤} {A : Atoms 𝓤} {K : Type 0} {W : Given 𝓤 H A} {Γ : List (Item 𝓤)} {G : Goal 𝓤 H} where
   pub lends-local : K → Soaks G → (h : StepCounts) → Is T.the-row h (val h ∷ [])
-      → ((ν : ℕ) (γ : GName) → Seq K W (‵ (flft (ν ∷ []) fullShare) ∷ ‵ (ownsCounts b 0 1 (ν ∷ []) γ h) ∷ ‵ (flent (ν ∷ []) (held b 0 γ)) ∷ Γ) G)
+      → ((ν : ℕ) (γ : GName) → Seq K W (‵ (flft (ν ∷ []) fullShare) ∷ ‵ (ownsCounts b 0 (ν ∷ []) γ h) ∷ ‵ (flent (ν ∷ []) (held b 0 γ)) ∷ Γ) G)
       → Seq K W (‵ (fat fullShare T′.mir b 0 (val h)) ∷ Γ) G
   unfolding partOf
   lends-local t z h is k =
       use1 W (‵ (cell b 0 h)) (W .laws .at-raw fullShare T′.mir b 0 (val h)) $ owned t T.the-row (Is T.the-row) (LL.makes T.the-type T′.the-plain 𝓤 H A) h (val h ∷ []) is $
       move t (1 ∷ 0 ∷ []) $ fjoin t $ fpack t (List Val) (λ us. fsep (cellAt fullShare (T.the-row .mir) us b 0) (T.the-row .own h us)) (val h ∷ []) $
-      lft-new t z (λ ν. move t (1 ∷ []) $ use1 W (later (some (λ (γ : GName). ‵ (ownsCounts b 0 1 (ν ∷ []) γ h) ⊛ ‵ (flent (ν ∷ []) (held b 0 γ)))))
-      (L.lends-ref 𝓤 H A W T.the-row (named 1) (ν ∷ []) h b 0) $ await t z $ pick t (λ γ. split t $ move t (2 ∷ 0 ∷ 1 ∷ []) $ k ν γ))
+      lft-new t z (λ ν. move t (1 ∷ []) $ use1 W (later (some (λ (γ : GName). ‵ (ownsCounts b 0 (ν ∷ []) γ h) ⊛ ‵ (flent (ν ∷ []) (held b 0 γ)))))
+      (L.lends-ref 𝓤 H A W T.the-row (named 0) (ν ∷ []) h b 0) $ await t z $ pick t (λ γ. split t $ move t (2 ∷ 0 ∷ 1 ∷ []) $ k ν γ))
 
   pub local-back : K → Soaks G → {γ : GName} {ν : ℕ} (h : StepCounts) → (Is T.the-row h (val h ∷ []) → Seq K W (‵ (fat fullShare T′.mir b 0 (val h)) ∷ Γ) G)
       → Seq K W (‵ (flft (ν ∷ []) fullShare) ∷ ‵ (flent (ν ∷ []) (held b 0 γ)) ∷ ‵ (fres γ (tracked h)) ∷ Γ) G

@@ -1,15 +1,16 @@
 -- The room of the counters. Assumes nothing.
 use Prim.Native.Nat.{ℕ, _-_, _≤_, _<_}
-use mathlib.Core.Bool.{true, _&&_}
-use mathlib.Core.Path.{_≡_}
+use mathlib.Core.Bool.{Bool, true, false, cond, _&&_}
+use mathlib.Core.Path.{_≡_, refl, sym, _∙_}
 use native.Mathlib.Omega.{arith}
 use borrow.Author.Needs.{needs}
-use borrow.Author.Tests.{leb-true}
-use lib.Dec.{leb}
-use Rattle.compare.proofs.Tests.{and-left, and-right}
+use borrow.Author.Tests.{leb-true, eq-eqb}
+use lib.Dec.{eqb, leb}
+use Rattle.compare.proofs.Tests.{never, and-left, and-right}
+use Rattle.flash.specs.Geometry.{unless}
 use Rattle.flash.specs.declared.steps.Step.{Step}
 use Rattle.flash.specs.declared.steps.Step.the-variants.{Erase, Copy, Byte, Mark}
-use Rattle.runner.specs.Counts.{withStep, roomy, RoomFor}
+use Rattle.runner.specs.Counts.{withStep, roomy, countsCheck, countsAfter, RoomFor}
 use Rattle.runner.specs.declared.counts.StepCounts.{StepCounts}
 
 abbrev most : ℕ
@@ -38,3 +39,20 @@ room-less c n (Mark at) h r = search needs
 
 pub room-fewer : (c : StepCounts) (m n : ℕ) → m ≤ n → RoomFor c n → RoomFor c m
 room-fewer c m n h r = search needs
+
+-- what adding one step comes to, by its refusal
+pub added : (c : StepCounts) (s : Step) → countsCheck c ≡ 0 → RoomFor c 1 × (withStep c s ≡ countsAfter c s)
+unfolding countsCheck countsAfter
+added c s = go (roomy c) refl
+  where
+    go : (b : Bool) → roomy c ≡ b → unless b 28 0 ≡ 0 → RoomFor c 1 × (withStep c s ≡ cond b (withStep c s) c)
+    go true p e = (roomy-for c 1 p (omega arith), refl)
+    go false p e = absurd (omega arith)
+
+pub not-added : (c : StepCounts) (s : Step) → eqb (countsCheck c) 0 ≡ false → c ≡ countsAfter c s
+unfolding countsCheck countsAfter
+not-added c s = go (roomy c)
+  where
+    go : (b : Bool) → eqb (unless b 28 0) 0 ≡ false → c ≡ cond b (withStep c s) c
+    go true e = never (sym (eq-eqb 0 0 refl) ∙ e)
+    go false e = refl

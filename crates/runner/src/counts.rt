@@ -1,6 +1,6 @@
 // The record of finished steps, one counter per kind.
 ghost use mathlib.Core.Path.{_≡_};
-ghost use Rattle.runner.specs.Counts.{withStep, roomy, countsCheck, countsAfter, RoomFor};
+ghost use Rattle.runner.specs.Counts.{withStep, roomy, countsCheck, RoomFor};
 use flash::Step;
 
 #[repr(C)]
@@ -11,12 +11,6 @@ pub struct StepCounts {
     pub marks: u32,
 }
 
-// The number of an addition, and the record that it leaves.
-pub struct Addition {
-    pub number: u32,
-    pub counts: StepCounts,
-}
-
 // Whether no counter is above 4,294,963,199.
 pub(crate) fn is_roomy(counts: StepCounts) -> bool
     ensures { λ r. ⌜ r ≡ roomy counts ⌝ }
@@ -25,6 +19,13 @@ pub(crate) fn is_roomy(counts: StepCounts) -> bool
         & (counts.copies <= 4294963199)
         & (counts.bytes <= 4294963199)
         & (counts.marks <= 4294963199)
+}
+
+// 28 where a counter is above 4,294,963,199, or 0.
+pub(crate) fn check_counts(counts: StepCounts) -> u32
+    ensures { λ r. ⌜ r ≡ countsCheck counts ⌝ }
+{
+    if is_roomy(counts) { 0 } else { 28 }
 }
 
 // One finished step more.
@@ -40,18 +41,4 @@ pub(crate) fn with_step(counts: StepCounts, step: Step) -> StepCounts
         Step::Mark(_) => more.marks = counts.marks + 1,
     }
     more
-}
-
-// Adds one finished step to a record: 28, and the record as it was, where a counter is above
-// 4,294,963,199.
-pub fn added(counts: StepCounts, step: Step) -> Addition
-    ensures { λ r. ⌜ (r .number ≡ countsCheck counts) × (r .counts ≡ countsAfter counts step) ⌝ }
-{
-    if is_roomy(counts) {
-        return Addition {
-            number: 0,
-            counts: with_step(counts, step),
-        };
-    }
-    Addition { number: 28, counts }
 }

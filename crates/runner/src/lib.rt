@@ -10,9 +10,8 @@ ghost use mathlib.Core.Path.{_≡_};
 ghost use Rattle.loader.specs.Checks.{imageChecks};
 ghost use Rattle.runner.specs.Counts.{withStep, countsCheck, countsAfter, RoomFor};
 ghost use Rattle.runner.specs.Runs.{runOf, Leaves};
-pub use counts::Addition;
 pub use counts::StepCounts;
-pub use counts::added;
+use counts::check_counts;
 use counts::with_step;
 use flash::Geometry;
 use flash::Step;
@@ -35,9 +34,11 @@ fn count_step(counts: &mut StepCounts, step: Step)
 pub fn add_step(counts: &mut StepCounts, step: Step) -> u32
     ensures { λ r. ⌜ (r ≡ countsCheck (now (counts .entry))) × (now (counts .exit) ≡ countsAfter (now (counts .entry)) step) ⌝ }
 {
-    let done = added(*counts, step);
-    *counts = done.counts;
-    done.number
+    let refusal = check_counts(*counts);
+    if refusal == 0 {
+        count_step(counts, step);
+    }
+    refusal
 }
 
 // A run of up to a number of steps (0 to 4096). Each finished step is counted in the caller's record as it

@@ -9,7 +9,7 @@ ghost use Rattle.runner.specs.Counts.{RoomFor};
 ghost use Rattle.runner.specs.Runs.{runCheck, runOf};
 ghost use Rattle.runner.specs.Standings.{restOf, outcomeOf};
 use crate::counts::StepCounts;
-use crate::counts::is_roomy;
+use crate::counts::check_counts;
 use crate::one_step::carry_out;
 use crate::one_step::pick;
 use flash::Geometry;
@@ -41,7 +41,7 @@ fn check_run(g: Geometry, len: usize, number: u32, counts: StepCounts) -> u32
     if 4096 < number {
         return 29;
     }
-    if is_roomy(counts) { 0 } else { 28 }
+    check_counts(counts)
 }
 
 // The run ends with an answer, after a last step or with none done.

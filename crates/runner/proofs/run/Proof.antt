@@ -2,12 +2,9 @@
 -- step was done, the record to `count_step`, each for a lifetime that is made for the call (`Lending.antt`). The invariant says where the run
 -- stands (`Standings.antt`), and the variant is how many steps are left. All that the proof knows of `begin`, `proceed` and `count_step` are
 -- their contracts. Assumes nothing.
-use mathlib.Core.Bool.{Bool, true, false, not}
+use mathlib.Core.Bool.{true}
 use mathlib.Core.WellFounded.{WellFounded, InvImage·wf}
 use lib.WfN.{Nat·lt-wfRel}
-use lib.Dec.{T as Holds}
-use mir.Syntax.{tyUnit}
-use mir.Val.{hasTy, WT}
 use prog.Wp.{Out, Env, spotOf, afterSeq, afterBlock, afterTurn, Wp, atReturn}
 use contract.Running.{tablesOf}
 use denote.Enum.Laws as EL
@@ -26,7 +23,7 @@ use Rattle.runner.specs.Runs.{Outcome, runOf, Leaves}
 use Rattle.runner.specs.Standings.{restOf, outcomeOf}
 use Rattle.runner.specs.declared.counts.StepCounts.{StepCounts}
 use Rattle.runner.specs.declared.standing.Standing.{Standing}
-use Rattle.runner.proofs.Logic.{ℕ, _<_, List, [], _∷_, _≡_, refl, sym, ap, subst, _∙_, fullShare, w32, w64, Val, vunit, vint, vptr, Lft, GName}
+use Rattle.runner.proofs.Logic.{ℕ, _<_, List, [], _∷_, _≡_, refl, sym, ap, subst, _∙_, fullShare, w32, w64, Val, vint, vptr, Lft, GName}
 use Rattle.runner.proofs.Logic.{Share, length, URA, Memory, Routine, Heap, Calls, Loops, Tables, WpFn, Atoms, sem, Fun, fact, FmC, ftrue}
 use Rattle.runner.proofs.Logic.{fat, flft, SProp, ent, emp, via, exE, fst∗, snd∗, id⊢, Given, Item, Sq, anyQ, atRet, runs, ‵, raw, some}
 use Rattle.runner.proofs.Logic.{later, _⊛_, ⋆, !, _$_, _∵_, qed, by, move, drop, use1, use2, rewrite, split, join, pick, fsplit, fsplit3}
@@ -35,14 +32,15 @@ use Rattle.runner.proofs.Logic.{forget, stop, hop, fld, from, load, add
 use Rattle.runner.proofs.Logic.{branches, loops, again, Below, returns-within, enter, params1, pass1, pass0, free1, free0, only, owned, peeks}
 use Rattle.runner.proofs.Logic.{heard, nothing, bool, u8, u32, usize, Is, Ises, Are, valss, shows, Nothing, bool-makes}
 use Rattle.runner.proofs.Logic.{uint-makes, Denots, owns, flat, MutSlice, Room, sliceVal, named}
-use Rattle.runner.proofs.Logic.{yes, plain, calls-at, calls-at-last, ensured, lasts, onEntry, tripleOf, Contract, Triple, cited, Stays, stay-ref}
+use Rattle.runner.proofs.Logic.{yes, plain, calls-at, ensured, lasts, onEntry, tripleOf, Contract, Triple, cited, Stays, stay-ref}
 use Rattle.runner.proofs.Logic.{stay-slice, stay-dropped, goes-dropped, goes-ref, goes-slice, Walks, walkOf, walked, says, ends-at, givenOf}
 use Rattle.runner.proofs.Logic.{tables, by-walk}
-use Rattle.runner.proofs.Lending.{flashAt, countsAt, ownsFlash, ownsCounts, lends-flash, flash-back, lends-counts, counts-back}
+use Rattle.runner.proofs.Adding.{calls-adding}
+use Rattle.runner.proofs.Lending.{flashAt, countsAt, ownsFlash, ownsCounts, lends-flash, flash-back}
 use Rattle.runner.proofs.Parameters.{_&_, rowsOf, argsOf, valsOf, spellsOf, tellsOf, with-units, makes-owned, drops-owned, adds-trues}
 use Rattle.runner.proofs.Passing.{Rs, spells, tells, tokens, outcome}
 use Rattle.runner.proofs.Standings.{Stands, stands, stops, room-for-one, goes-on}
-use Rattle.runner.proofs.Walks.{Blocks, env, val, allocated, frees-at, holds, vacant, passes-at, calls-value, opens-counts, closes-counts}
+use Rattle.runner.proofs.Walks.{is-true, is-false, unit-typed, Blocks, env, val, allocated, frees-at, holds, vacant, passes-at, calls-value, opens-counts, closes-counts}
 use Rattle.runner.proofs.count_step as count
 use Rattle.runner.proofs.count_step.Met as count-thm
 use Rattle.runner.proofs.count_step.Symbol as count-def
@@ -76,17 +74,6 @@ pval t = LL.val P.the-type P′.the-laws t
 
 abbrev sval : Step → Val
 sval s = EL.val S.the-type S′.the-laws s
-
-is-true : (b : Bool) → Holds b → b ≡ true
-is-true true h = refl
-is-true false h = absurd h
-
-is-false : (b : Bool) → Holds (not b) → b ≡ false
-is-false false h = refl
-is-false true h = absurd h
-
-unit-typed : (w : Val) → w ∷ [] ≡ vunit ∷ [] → Holds (hasTy tyUnit w) × WT w
-unit-typed w u = subst (λ (v : Val). Holds (hasTy tyUnit v) × WT v) (sym (ap only u)) (tt, tt)
 
 -- ---- the contracts that the proof cites
 module _ {M : Type 1} (𝓤 : URA M) (H : Heap 𝓤) (A : Atoms 𝓤) (at-mem : Memory → SProp 𝓤) (run : Routine → Fun 𝓤) where
@@ -157,16 +144,16 @@ module _ {M : Type 1} (𝓤 : URA M) (H : Heap 𝓤) (A : Atoms 𝓤) (W : Given
   to-count ν δ c s = (((ν ∷ []) & tt, fullShare & tt, tt, countsAt b′ o′ δ c & s & tt, (vptr b′ o′ ∷ []) & (sval s ∷ []) & tt), tt)
 
   asks-count : (ν : ℕ) (δ : GName) (c : StepCounts) (s : Step) → Is S.the-row s (sval s ∷ []) → RoomFor c 1
-      → ent 𝓤 (⋆ 𝓤 H A (‵ (flft (ν ∷ []) fullShare) ∷ ‵ (ownsCounts b′ o′ 0 (ν ∷ []) δ c) ∷ [])) (Count 𝓤 H A at-mem run .pre (to-count ν δ c s))
+      → ent 𝓤 (⋆ 𝓤 H A (‵ (flft (ν ∷ []) fullShare) ∷ ‵ (ownsCounts b′ o′ (ν ∷ []) δ c) ∷ [])) (Count 𝓤 H A at-mem run .pre (to-count ν δ c s))
   asks-count ν δ c s is one =
-      qed W (‵ (flft (ν ∷ []) fullShare) ∷ ‵ (ownsCounts b′ o′ 0 (ν ∷ []) δ c) ∷ []) ∵ says ! one $ nothing ! $ move ! (1 ∷ 0 ∷ []) $ join ! $ frame ! $ nothing ! $
+      qed W (‵ (flft (ν ∷ []) fullShare) ∷ ‵ (ownsCounts b′ o′ (ν ∷ []) δ c) ∷ []) ∵ says ! one $ nothing ! $ move ! (1 ∷ 0 ∷ []) $ join ! $ frame ! $ nothing ! $
       makes-owned ! (S.the-row ∷ []) (EL.makes S.the-type S′.the-plain 𝓤 H A & tt) (s & tt) ((sval s ∷ []) & tt) (is & tt) $ move ! (1 ∷ 0 ∷ []) $ fjoin ! $ done !
 
   -- ---- the exit
   exits : (r : Answer) (v : Val) → Is N.the-row r (v ∷ []) → (zs : List ℕ) (c : StepCounts) → Leaves h whole-run r zs c → length zs ≡ length ys
-      → ent 𝓤 (⋆ 𝓤 H A (‵ (ownsFlash b o κ γ zs) ∷ ‵ (flft κ q) ∷ ‵ (ownsCounts b′ o′ 1 κ′ γ′ c) ∷ ‵ (flft κ′ q′) ∷ [])) (Post v)
+      → ent 𝓤 (⋆ 𝓤 H A (‵ (ownsFlash b o κ γ zs) ∷ ‵ (flft κ q) ∷ ‵ (ownsCounts b′ o′ κ′ γ′ c) ∷ ‵ (flft κ′ q′) ∷ [])) (Post v)
   exits r v is zs c e l =
-      qed W (‵ (ownsFlash b o κ γ zs) ∷ ‵ (flft κ q) ∷ ‵ (ownsCounts b′ o′ 1 κ′ γ′ c) ∷ ‵ (flft κ′ q′) ∷ []) ∵ suffices ! _
+      qed W (‵ (ownsFlash b o κ γ zs) ∷ ‵ (flft κ q) ∷ ‵ (ownsCounts b′ o′ κ′ γ′ c) ∷ ‵ (flft κ′ q′) ∷ []) ∵ suffices ! _
       (ends-at 𝓤 H A f.ended stayed (f.clauses 𝓤 H A at-mem run) W bound v r (zs & with-units Rs (c & tt)) (l & with-units Rs (tt & tt))) $ says ! e $
       nothing ! $ move ! (4 ∷ 0 ∷ []) $ join ! $ move ! (2 ∷ 0 ∷ []) $ join ! $ frame ! $
       rewrite ! 0 (λ (m : ℕ). ‵ (MutSlice (named 0) κ u8 .own (flashAt b o γ zs) (sliceVal (b, o) m ∷ []))) l refl $
@@ -214,7 +201,7 @@ module _ {M : Type 1} (𝓤 : URA M) (H : Heap 𝓤) (A : Atoms 𝓤) (W : Given
           (has 1 (sliceVal (b, o) (length ys)) (no 0 []))))))))))))))
 
       abbrev I : At → List (Item 𝓤)
-      I u = ‵ (ownsFlash b o κ γ (u .l)) ∷ ‵ (flft κ q) ∷ ‵ (ownsCounts b′ o′ 1 κ′ γ′ (u .c)) ∷ ‵ (flft κ′ q′) ∷ locals (u .t)
+      I u = ‵ (ownsFlash b o κ γ (u .l)) ∷ ‵ (flft κ q) ∷ ‵ (ownsCounts b′ o′ κ′ γ′ (u .c)) ∷ ‵ (flft κ′ q′) ∷ locals (u .t)
 
       -- when the loop is left
       abbrev Left : Out → SProp 𝓤
@@ -255,17 +242,12 @@ module _ {M : Type 1} (𝓤 : URA M) (H : Heap 𝓤) (A : Atoms 𝓤) (W : Given
           let s = r .step in
           let one = room-for-one imageChecks (ps .0) h whole-run t l c (u .inv) r (zs .0) (e .0) d (e .1 d) in
           assigns ! (addr ! (from ! (hop ! (look ! 20 refl) (stop !)))) (from ! (stop !)) (init ! 4 refl (tt, tt)) $
-          move ! (2 ∷ 3 ∷ []) $ lends-counts b′ o′ ! tt (λ ν′ δ′. use2 W (raw (Count 𝓤 H A at-mem run .pre (to-count ν′ δ′ c s))) (asks-count ν′ δ′ c s (parts .1 .0) one) $
-          calls-at-last ! fm (Count 𝓤 H A at-mem run) known-count (to-count ν′ δ′ c s)
-          (passes-at ! 4 refl (and-then ! (load ! (from ! (fld ! refl (stop !))) (look-in ! 18 (sub ! 1 refl (whole !)))) (no-more !))) (λ w′.
-          use1 W (later (some (λ (n : Unit {0}). ((‵ (flft (ν′ ∷ []) fullShare) ⊛ ‵ ftrue) ⊛ ‵ (Nothing .own n (w′ ∷ [])))
-          ⊛ raw (ensured 𝓤 H A count.ended (count.clauses 𝓤 H A at-mem run) ((ν′ ∷ []) & tt) (to-count ν′ δ′ c s .0 .3) tt n)))) (id⊢ 𝓤 _) $ await ! tt $ pick ! (λ n.
-          split ! $ move ! (1 ∷ []) $ use1 W (some (λ (cs : StepCounts × (Unit {0} × Unit {0})).
-          ‵ (lasts count.ended ((ν′ ∷ []) & tt) (to-count ν′ δ′ c s .0 .3) cs) ⊛ raw (fact 𝓤 (cs .0 ≡ withStep c s)))) (id⊢ 𝓤 _) $ pick ! (λ cs.
-          split ! $ move ! (1 ∷ []) $ heard ! (cs .0 ≡ withStep c s) (λ more. fsplit ! $ move ! (2 ∷ []) $ split ! $ move ! (1 ∷ []) $ feqL ! (λ unit.
-          -- [ν′'s token and true; the last record; …; the lent record; the flash; its token; _14; …]: the record is back, _13 = ()
-          split ! $ move ! (0 ∷ 4 ∷ 2 ∷ []) $ counts-back b′ o′ ! tt (cs .0) $ rewrite ! 0 (λ (k : StepCounts). ‵ (ownsCounts b′ o′ 1 κ′ γ′ k)) more refl $
-          move ! (2 ∷ 3 ∷ []) $ drop ! $ drop ! $ move ! (2 ∷ 3 ∷ []) $ land-last ! (from ! (stop !)) (init ! 6 refl (unit-typed w′ unit)) $
+          move ! (2 ∷ 3 ∷ []) $ calls-adding b′ o′ ! fm Nothing (λ n k. k ≡ withStep c s) (sval s)
+          (λ ν′ δ′. via 𝓤 (Count 𝓤 H A at-mem run .pre (to-count ν′ δ′ c s)) (asks-count ν′ δ′ c s (parts .1 .0) one) (known-count (to-count ν′ δ′ c s)))
+          (λ ν′ δ′. passes-at ! 4 refl (and-then ! (load ! (from ! (fld ! refl (stop !))) (look-in ! 18 (sub ! 1 refl (whole !)))) (no-more !)))
+          (λ n w′ k more unit. rewrite ! 0 (λ (k′ : StepCounts). ‵ (ownsCounts b′ o′ κ′ γ′ k′)) more refl $
+          -- [the record; its token; the flash; its token; _14; …]: _13 = ()
+          move ! (2 ∷ 3 ∷ []) $ land-last ! (from ! (stop !)) (init ! 6 refl (unit-typed w′ unit)) $
           forget ! 4 refl $ forget ! 6 refl $ forget ! 8 refl $ forget ! 10 refl $ forget ! 12 refl $
           again ! ≺ I u (record {
             t = r;
@@ -274,7 +256,7 @@ module _ {M : Type 1} (𝓤 : URA M) (H : Heap 𝓤) (A : Atoms 𝓤) (W : Given
             is = is′;
             same-length = len ∙ u .same-length;
             inv = goes-on imageChecks (ps .0) h whole-run t l c (u .inv) r (zs .0) (e .0) d (e .1 d);
-          }) (e .1 d))))))))
+          }) (e .1 d)))
           -- none was done: _0 = the answer
           (λ n. assigns ! (of-opd ! (load ! (from ! (fld ! refl (stop !))) (look-in ! 18 (sub ! 3 refl (whole !))))) (from ! (stop !))
           (init ! 32 refl (EL.lawful N.the-type N′.the-laws 𝓤 H A W tt .typed (r .answer) _ (parts .1 .1 .1 .0) .0)) $

@@ -1,7 +1,6 @@
 use native.Mathlib.Omega.{arith}
 use borrow.Author.Needs.{needs}
 use borrow.Author.Tests.{le-leb, lt-leb, eq-eqb, ne-eqb}
-use Rattle.runner.specs.Counts.{countsCheck}
 use Rattle.runner.specs.Runs.{runCheck}
 use Rattle.runner.proofs.standing.check_run.Statement.{statement}
 use Rattle.runner.proofs.standing.check_run.Tie as tie
@@ -15,27 +14,14 @@ unfolding runCheck
 returns-2 c = rw (← c .before .before .check-geometry .ensures, eq-eqb _ _ (c .before .if1 .left), lt-leb (c .before .before .before .args .number) 4096 (omega (arith, c .if2 .taken)))
 
 returns-3 : tie.Need-returns-3
-unfolding runCheck countsCheck
+unfolding runCheck
 returns-3 c =
     rw (
-      ← c .before .before .before .before .check-geometry .ensures,
-      eq-eqb _ _ (c .before .before .before .if1 .left),
-      le-leb (c .before .before .before .before .before .args .number) 4096 (omega (arith, c .before .before .if2 .left)),
-      ← c .before .is-roomy .ensures,
-      c .if3 .taken,
-    )
-
-returns-4 : tie.Need-returns-4
-unfolding runCheck countsCheck
-returns-4 c =
-    rw (
-      ← c .before .before .before .before .check-geometry .ensures,
-      eq-eqb _ _ (c .before .before .before .if1 .left),
-      le-leb (c .before .before .before .before .before .args .number) 4096 (omega (arith, c .before .before .if2 .left)),
-      ← c .before .is-roomy .ensures,
-      c .if3 .left,
-    )
+      ← c .before .before .before .check-geometry .ensures,
+      eq-eqb _ _ (c .before .before .if1 .left),
+      le-leb (c .before .before .before .before .args .number) 4096 (omega (arith, c .before .if2 .left)),
+    ) (c .check-counts .ensures)
 
 pub check-run-spec : {M : Type 1} → statement M
 check-run-spec =
-    tie.close (tie.spec (λ c κs. search needs) returns returns-2 (λ c κs. search needs) returns-3 returns-4)
+    tie.close (tie.spec (λ c κs. search needs) returns returns-2 (λ c κs. search needs) returns-3)
