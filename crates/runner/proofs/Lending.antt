@@ -67,7 +67,8 @@ module _ (b o : ℕ) where
         qed W (‵ (ownsFlash κ γ ys) ∷ ‵ (flft κ q) ∷ []) ∵ updating ! $ fsplit ! $
         pureL ! (at-slice u8 (flashAt γ ys) (sliceVal (b, o) (length ys) ∷ [])) (λ p. fsplit ! $ opens-slice ! tt u8 ys b o $
         use1 W (‵ (cells (mem u8) ys b o)) (whole-in 𝓤 H A W u8 ys b o) $
-        use1 W (later (some (λ (δ : GName). ‵ (ownsFlash ν δ ys) ⊛ ‵ (flent ν (Held u8 (length ys) b o δ))))) (lends-slice 𝓤 H A W u8 (named 0) ν ys b o (p .1)) $
+        use1 W (later (some (λ (δ : GName). ‵ (ownsFlash ν δ ys) ⊛ ‵ (flent ν (Held u8 (length ys) b o δ)))))
+        (lends-slice 𝓤 H A W u8 (named 0) ν ys b o (p .1)) $
         await ! tt $ pick ! (λ δ. split ! $
         -- [the new slice; the lender's part at ν; the open borrow at κ; obs γ; auth γ]
         at-once ! $ show ! (λ (δ′ : GName). sep 𝓤 (sem 𝓤 H A (ownsFlash ν δ′ ys)) (sem 𝓤 H A (FlashLent κ ν q γ δ′ ys))) δ $ frame ! $
@@ -77,7 +78,8 @@ module _ (b o : ℕ) where
         → ent 𝓤 (sep 𝓤 (A .dead ν) (sep 𝓤 (sem 𝓤 H A (FlashLent κ ν q γ δ ys)) (sem 𝓤 H A (finally u8 δ zs))))
         (H .⇛ (sep 𝓤 (sem 𝓤 H A (ownsFlash κ γ zs)) (A .lft κ q)))
     back δ zs room e =
-        qed W (‵ (fdead ν) ∷ ‵ (FlashLent κ ν q γ δ ys) ∷ ‵ (finally u8 δ zs) ∷ []) ∵ updating ! $ move ! (1 ∷ []) $ fsplit ! $ move ! (2 ∷ 0 ∷ 3 ∷ []) $
+        qed W (‵ (fdead ν) ∷ ‵ (FlashLent κ ν q γ δ ys) ∷ ‵ (finally u8 δ zs) ∷ []) ∵ updating ! $ move ! (1 ∷ []) $ fsplit ! $
+        move ! (2 ∷ 0 ∷ 3 ∷ []) $
         use3 W (later (‵ (Arr (mem u8) (length ys) .lies zs b o))) (slice-back 𝓤 H A W u8 ν δ zs (length ys) b o) $ await ! tt $ fsplit ! $ drop ! $
         use1 W (‵ (row u8 fullShare zs b o)) (whole-out 𝓤 H A W u8 zs b o) $ move ! (1 ∷ []) $ fsplit ! $ move ! (1 ∷ []) $ fsplit ! $
         move ! (3 ∷ 2 ∷ 0 ∷ 1 ∷ []) $ closes-slice ! tt u8 ys zs e b o $ at-once ! $
@@ -110,7 +112,8 @@ module _ (b o : ℕ) where
         → Step K W (‵ (ownsCounts κ γ h′) ∷ ‵ (flft κ q) ∷ Γ) G
         (‵ (flft (ν ∷ []) fullShare) ∷ ‵ (CountsLent κ (ν ∷ []) q γ δ h) ∷ ‵ (fres δ (T.the-row .coded .code h′)) ∷ Γ) G
     counts-back t z {κ} {q} {γ} {δ} {h} {ν} h′ = step (λ s. lft-end t z $
-        use3 W (later (‵ (ownsCounts κ γ h′) ⊛ ‵ (flft κ q))) (L.comes-back 𝓤 H A W T.the-row (named 0) κ (ν ∷ []) q γ b o δ h h′) $ await t z $ split t $ s)
+        use3 W (later (‵ (ownsCounts κ γ h′) ⊛ ‵ (flft κ q))) (L.comes-back 𝓤 H A W T.the-row (named 0) κ (ν ∷ []) q γ b o δ h h′) $ await t z $
+        split t $ s)
 
 module _ (b : ℕ) {M : Type 1} {𝓤 : URA M} {H : Heap 𝓤} {A : Atoms 𝓤} {K : Type 0} {W : Given 𝓤 H A} {Γ : List (Item 𝓤)} {G : Goal 𝓤 H} where
   pub lends-local : K → Soaks G → (h : StepCounts) → Is T.the-row h (val h ∷ [])
@@ -118,16 +121,19 @@ module _ (b : ℕ) {M : Type 1} {𝓤 : URA M} {H : Heap 𝓤} {A : Atoms 𝓤} 
       → Seq K W (‵ (fat fullShare T′.mir b 0 (val h)) ∷ Γ) G
   unfolding partOf
   lends-local t z h is k =
-      use1 W (‵ (cell b 0 h)) (W .laws .at-raw fullShare T′.mir b 0 (val h)) $ owned t T.the-row (Is T.the-row) (LL.makes T.the-type T′.the-plain 𝓤 H A) h (val h ∷ []) is $
+      use1 W (‵ (cell b 0 h)) (W .laws .at-raw fullShare T′.mir b 0 (val h)) $ owned t T.the-row (Is T.the-row)
+      (LL.makes T.the-type T′.the-plain 𝓤 H A) h (val h ∷ []) is $
       move t (1 ∷ 0 ∷ []) $ fjoin t $ fpack t (List Val) (λ us. fsep (cellAt fullShare (T.the-row .mir) us b 0) (T.the-row .own h us)) (val h ∷ []) $
       lft-new t z (λ ν. move t (1 ∷ []) $ use1 W (later (some (λ (γ : GName). ‵ (ownsCounts b 0 (ν ∷ []) γ h) ⊛ ‵ (flent (ν ∷ []) (held b 0 γ)))))
       (L.lends-ref 𝓤 H A W T.the-row (named 0) (ν ∷ []) h b 0) $ await t z $ pick t (λ γ. split t $ move t (2 ∷ 0 ∷ 1 ∷ []) $ k ν γ))
 
-  pub local-back : K → Soaks G → {γ : GName} {ν : ℕ} (h : StepCounts) → (Is T.the-row h (val h ∷ []) → Seq K W (‵ (fat fullShare T′.mir b 0 (val h)) ∷ Γ) G)
+  pub local-back : K → Soaks G → {γ : GName} {ν : ℕ} (h : StepCounts) → (Is T.the-row h (val h ∷ [])
+      → Seq K W (‵ (fat fullShare T′.mir b 0 (val h)) ∷ Γ) G)
       → Seq K W (‵ (flft (ν ∷ []) fullShare) ∷ ‵ (flent (ν ∷ []) (held b 0 γ)) ∷ ‵ (fres γ (tracked h)) ∷ Γ) G
   unfolding partOf
   local-back t z {γ} {ν} h k =
-      lft-end t z $ use3 W (later (‵ (mem T.the-row .lies h b 0))) (L.ref-back 𝓤 H A W T.the-row (ν ∷ []) γ h b 0) $ await t z $ fpick t (λ us. fsplit t $
+      lft-end t z $ use3 W (later (‵ (mem T.the-row .lies h b 0))) (L.ref-back 𝓤 H A W T.the-row (ν ∷ []) γ h b 0) $ await t z $
+      fpick t (λ us. fsplit t $
       spelt t T.the-row (Is T.the-row) (shows 𝓤 H A T.the-row) (LL.vals T.the-type T′.the-laws) (LL.tells T.the-type T′.the-laws) fullShare h us b 0 $
       move t (1 ∷ []) $ peeks t T.the-row (Is T.the-row) (shows 𝓤 H A T.the-row) h (val h ∷ []) (λ is. drop t $
       use1 W (‵ (fat fullShare T′.mir b 0 (val h))) (W .laws .raw-at fullShare T′.mir b 0 (val h)) $ k is))

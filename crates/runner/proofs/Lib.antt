@@ -7,3 +7,4 @@ pub mod Walks
 pub mod Lending
 pub mod Passing
 pub mod Adding
+pub mod Counting

@@ -2,7 +2,6 @@
 --     asks-run         what the call asks is made.        ran      it has returned: its result, the tokens, and what says the last values
 -- ps are the parameters by value, of the types Rs. Assumes `Given`.
 use base.Fml.{fres}
-use denote.Enum.Laws as EL
 use denote.Struct.Laws as LL
 use types.Kit.{Goal, Soaks, Seq}
 use Rattle.flash.proofs.geometry.Geometry as G
@@ -14,9 +13,9 @@ use Rattle.runner.specs.Runs.{Outcome, runOf, Leaves}
 use Rattle.runner.specs.declared.counts.StepCounts.{StepCounts}
 use Rattle.runner.proofs.Logic.{ℕ, List, [], _∷_, _≡_, w32, Val, vptr, Lft, Share, length, URA, Memory, Routine, Heap, Atoms, Fun, fact}
 use Rattle.runner.proofs.Logic.{ftrue, flft, SProp, ent, id⊢, Given, Item, ‵, raw, some, later, _⊛_, ⋆, !, _$_, _∵_, qed, move, drop, use1}
-use Rattle.runner.proofs.Logic.{split, join, pick, fsplit, fjoin, feqL, frame, await, done, peeks, heard, nothing, bool, u8, u32, Is, Ises, Are}
-use Rattle.runner.proofs.Logic.{Spells, Tellss, valss, shows, bool-makes, bool-vals, bool-tells, uint-makes, uint-vals, uint-tells, RattleType}
-use Rattle.runner.proofs.Logic.{Denots, RefT, MutRef, MutSlice, sliceVal, finally, named, lasts, tripleOf, Contract}
+use Rattle.runner.proofs.Logic.{split, join, pick, fsplit, fjoin, feqL, frame, await, done, peeks, heard, nothing, bool, u8, u32, Is, Ises}
+use Rattle.runner.proofs.Logic.{Are, Spells, Tellss, valss, shows, bool-makes, bool-vals, bool-tells, uint-makes, uint-vals, uint-tells}
+use Rattle.runner.proofs.Logic.{RattleType, Denots, RefT, MutRef, MutSlice, sliceVal, finally, named, lasts, tripleOf, Contract}
 use Rattle.runner.proofs.Parameters.{_&_, argsOf, valsOf, Units, makes-owned}
 use Rattle.runner.proofs.Walks.{tracked}
 use Rattle.runner.proofs.counts.StepCounts as T
@@ -59,14 +58,19 @@ module _ {M : Type 1} (𝓤 : URA M) (H : Heap 𝓤) (A : Atoms 𝓤) (at-mem : 
 
     pub ran : {K : Type 0} {W : Given 𝓤 H A} {Γ : List (Item 𝓤)} {G : Goal 𝓤 H} → K → Soaks G → (w : Val)
         → ((r : Answer) (zs : List ℕ) (c : StepCounts) → Leaves (y .now) (outcome ps (x .now) (y .now)) r zs c → length zs ≡ length (x .now)
-        → Is N.the-row r (w ∷ []) → Seq K W (‵ (N.the-row .own r (w ∷ [])) ∷ tokens κ κ′ q q′ ∷ ‵ (fres (y .name) (tracked c)) ∷ ‵ (finally u8 (x .name) zs) ∷ Γ) G)
+        → Is N.the-row r (w ∷ []) → Seq K W (‵ (N.the-row .own r (w ∷ [])) ∷ tokens κ κ′ q q′ ∷ ‵ (fres (y .name) (tracked c))
+        ∷ ‵ (finally u8 (x .name) zs) ∷ Γ) G)
         → Seq K W (raw (Run .post to-run w) ∷ Γ) G
     ran {W = W} t z w k =
         let o = outcome ps (x .now) (y .now) in
-        use1 W (later (some (λ (r : Answer). (tokens κ κ′ q q′ ⊛ ‵ (N.the-row .own r (w ∷ []))) ⊛ some (λ (zs : List ℕ × Units Rs (StepCounts × Unit {0})).
-        ‵ (lasts f.ended (κ & κ′ & tt) (argsOf Rs x ps y) zs) ⊛ raw (fact 𝓤 (Leaves (y .now) o r (zs .0) (zs .1 .1 .1 .1 .1 .0))))))) (id⊢ 𝓤 _) $ await t z $
-        pick t (λ r. split t $ move t (1 ∷ []) $ pick t (λ zs. split t $ move t (1 ∷ []) $ heard t (Leaves (y .now) o r (zs .0) (zs .1 .1 .1 .1 .1 .0)) (λ e.
-        fsplit t $ fsplit t $ move t (1 ∷ []) $ feqL t (λ l. move t (1 ∷ []) $ fsplit t $ drop t $ fsplit t $ drop t $ fsplit t $ drop t $ fsplit t $ drop t $
+        use1 W (later (some (λ (r : Answer). (tokens κ κ′ q q′ ⊛ ‵ (N.the-row .own r (w
+        ∷ []))) ⊛ some (λ (zs : List ℕ × Units Rs (StepCounts × Unit {0})).
+        ‵ (lasts f.ended (κ & κ′ & tt) (argsOf Rs x ps y) zs) ⊛ raw (fact 𝓤 (Leaves (y .now) o r (zs .0) (zs .1 .1 .1 .1 .1 .0))))))) (id⊢ 𝓤 _) $
+        await t z $
+        pick t (λ r. split t $ move t (1 ∷ []) $ pick t (λ zs. split t $ move t (1 ∷ []) $ heard t (Leaves (y .now) o r (zs .0)
+        (zs .1 .1 .1 .1 .1 .0)) (λ e.
+        fsplit t $ fsplit t $ move t (1 ∷ []) $ feqL t (λ l. move t (1 ∷ []) $ fsplit t $ drop t $ fsplit t $ drop t $ fsplit t $ drop t $
+        fsplit t $ drop t $
         -- [what says the last record; true; what says the last list; the tokens and the result; …]
         fsplit t $ move t (1 ∷ []) $ drop t $ move t (2 ∷ []) $ split t $ move t (1 ∷ []) $
         peeks t N.the-row (Is N.the-row) (shows 𝓤 H A N.the-row) r (w ∷ []) (λ is. k r (zs .0) (zs .1 .1 .1 .1 .1 .0) e l is)))))

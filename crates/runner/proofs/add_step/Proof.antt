@@ -11,17 +11,19 @@ use denote.Struct.Laws as LL
 use Rattle.flash.specs.declared.steps.Step.{Step}
 use Rattle.flash.proofs.steps.Step as S
 use Rattle.flash.proofs.steps.Step.Laws as S′
-use Rattle.runner.specs.Counts.{withStep, countsCheck, countsAfter, RoomFor}
+use Rattle.runner.specs.Counts.{withStep, countsCheck, countsAfter}
 use Rattle.runner.specs.declared.counts.StepCounts.{StepCounts}
 use Rattle.runner.proofs.Logic.{List, [], _∷_, _≡_, refl, sym, ap, _∙_, fullShare, named, w32, Val, vbool, vint, vptr, Lft, GName, Share}
-use Rattle.runner.proofs.Logic.{URA, Memory, Routine, Heap, Calls, Loops, WpFn, Atoms, sem, Fun, fact, FmC, ftrue, fat, flft, SProp, ent, emp}
-use Rattle.runner.proofs.Logic.{via, exE, fst∗, snd∗, Given, Item, Sq, atRet, runs, ‵, _⊛_, ⋆, !, _$_, _∵_, qed, by, move, drop, rewrite, split}
-use Rattle.runner.proofs.Logic.{join, fsplit, fsplit3, fjoin, fjoin3, feqI, suffices, frame, done, look, look-raw, init, forget, stop, hop, from}
-use Rattle.runner.proofs.Logic.{load, addr, of-opd, no-more, assigns, land, land-last, first, branches, returns, enter, params1, pass1, pass0}
-use Rattle.runner.proofs.Logic.{free1, free0, only, owned, peeks, nothing, u32, Is, shows, Nothing, uint-makes, uint-lawful, owns, MutRef}
-use Rattle.runner.proofs.Logic.{ptr-vals, mut-tells, yes, plain, ensured, lasts, onEntry, tripleOf, Contract, Triple, cited, Stays, stay-ref}
-use Rattle.runner.proofs.Logic.{stay-dropped, goes-dropped, goes-ref, walkOf, walked, says, ends-at, givenOf, tables, by-walk}
-use Rattle.runner.proofs.Adding.{loan, calls-adding}
+use Rattle.runner.proofs.Logic.{URA, Memory, Routine, Heap, Calls, Loops, WpFn, Atoms, sem, Fun, fact, FmC, ftrue, fat, flft, SProp, ent}
+use Rattle.runner.proofs.Logic.{emp, via, exE, fst∗, snd∗, Given, Item, Sq, atRet, runs, ‵, _⊛_, ⋆, !, _$_, _∵_, qed, by, move, drop}
+use Rattle.runner.proofs.Logic.{rewrite, split, join, fsplit, fsplit3, fjoin, fjoin3, feqI, suffices, frame, done, look, look-raw, init}
+use Rattle.runner.proofs.Logic.{forget, stop, hop, from, load, addr, of-opd, no-more, assigns, land, land-last, first, branches, returns}
+use Rattle.runner.proofs.Logic.{enter, params1, pass1, pass0, free1, free0, only, owned, peeks, nothing, u32, Is, shows, Nothing}
+use Rattle.runner.proofs.Logic.{uint-makes, uint-lawful, owns, MutRef, ptr-vals, mut-tells, yes, plain, ensured, lasts, onEntry, tripleOf}
+use Rattle.runner.proofs.Logic.{Contract, Triple, cited, Stays, stay-ref, stay-dropped, goes-dropped, goes-ref, walkOf, walked, says}
+use Rattle.runner.proofs.Logic.{ends-at, givenOf, tables, by-walk}
+use Rattle.runner.proofs.Adding.{calls-adding}
+use Rattle.runner.proofs.Counting.{sval, Count, counts}
 use Rattle.runner.proofs.Lending.{countsAt, ownsCounts}
 use Rattle.runner.proofs.Parameters.{_&_, makes-owned}
 use Rattle.runner.proofs.Rooms.{added, not-added}
@@ -32,7 +34,6 @@ use Rattle.runner.proofs.add_step.Code as code
 use Rattle.runner.proofs.add_step.Code.Mir as code-mir
 use Rattle.runner.proofs.add_step.Key.{name as #add-step}
 use Rattle.runner.proofs.add_step.Statement as stated
-use Rattle.runner.proofs.count_step as count
 use Rattle.runner.proofs.count_step.Met as count-thm
 use Rattle.runner.proofs.count_step.Symbol as count-def
 use Rattle.runner.proofs.count_step.Symbol.{name as #count-step}
@@ -46,17 +47,10 @@ use Rattle.runner.proofs.counts.check_counts.Symbol.{name as #check-cou
 abbrev stayed : Stays (f.ended .signature .params) (f.ended .kept)
 stayed = stay-ref (0 ∷ []) tt (plain (λ _. T.the-row)) & stay-dropped _ yes & tt
 
--- the machine value of a step
-abbrev sval : Step → Val
-sval s = EL.val S.the-type S′.the-laws s
-
--- ---- the contracts that the proof cites
+-- ---- the contract that the proof cites, beside `Counting.antt`'s
 module _ {M : Type 1} (𝓤 : URA M) (H : Heap 𝓤) (A : Atoms 𝓤) (at-mem : Memory → SProp 𝓤) (run : Routine → Fun 𝓤) where
   abbrev Check : Contract 𝓤
   Check = tripleOf 𝓤 H A check.signature (check.spec 𝓤 H A at-mem run)
-
-  abbrev Count : Contract 𝓤
-  Count = tripleOf 𝓤 H A count.signature (count.spec 𝓤 H A at-mem run)
 
 module _ {M : Type 1} (𝓤 : URA M) (H : Heap 𝓤) (A : Atoms 𝓤) (W : Given 𝓤 H A) (at-mem : Memory → SProp 𝓤) (run : Routine → Fun 𝓤)
     (κ : Lft) (q : Share) (b o : ℕ) (γ : GName) (h : StepCounts) (s : Step) (s-is : Is S.the-row s (sval s ∷ [])) where
@@ -66,7 +60,7 @@ module _ {M : Type 1} (𝓤 : URA M) (H : Heap 𝓤) (A : Atoms 𝓤) (W : Given
   abbrev Post : Val → SProp 𝓤
   Post = walkOf 𝓤 H A f.ended stayed (f.clauses 𝓤 H A at-mem run) .post bound
 
-  -- ---- the calls: what each triple binds outside, and what it asks
+  -- what the triple of `check_counts` binds outside, and what it asks
   abbrev to-check : Check 𝓤 H A at-mem run .Ghost
   to-check = ((tt, tt, tt, h & tt, (val h ∷ []) & tt), tt)
 
@@ -74,14 +68,6 @@ module _ {M : Type 1} (𝓤 : URA M) (H : Heap 𝓤) (A : Atoms 𝓤) (W : Given
   asks-check is =
       qed W [] ∵ nothing ! $ makes-owned ! (T.the-row ∷ []) (LL.makes T.the-type T′.the-plain 𝓤 H A & tt) (h & tt) ((val h ∷ []) & tt) (is & tt) $
       nothing ! $ join ! $ frame ! $ done !
-
-  abbrev to-count : ℕ → GName → Count 𝓤 H A at-mem run .Ghost
-  to-count ν δ = (((ν ∷ []) & tt, fullShare & tt, tt, countsAt b o δ h & s & tt, (vptr b o ∷ []) & (sval s ∷ []) & tt), tt)
-
-  asks-count : (ν : ℕ) (δ : GName) → RoomFor h 1 → ent 𝓤 (⋆ 𝓤 H A (loan b o ν δ h ∷ [])) (Count 𝓤 H A at-mem run .pre (to-count ν δ))
-  asks-count ν δ one =
-      qed W (loan b o ν δ h ∷ []) ∵ split ! $ says ! one $ nothing ! $ move ! (1 ∷ 0 ∷ []) $ join ! $ frame ! $ nothing ! $
-      makes-owned ! (S.the-row ∷ []) (EL.makes S.the-type S′.the-plain 𝓤 H A & tt) (s & tt) ((sval s ∷ []) & tt) (s-is & tt) $ move ! (1 ∷ 0 ∷ []) $ fjoin ! $ done !
 
   exits : (r : ℕ) → r < 2 ^ 32 → (c : StepCounts) → (r ≡ countsCheck h) × (c ≡ countsAfter h s)
       → ent 𝓤 (⋆ 𝓤 H A (‵ (ownsCounts b o κ γ c) ∷ ‵ (flft κ q) ∷ [])) (Post (vint w32 r))
@@ -118,7 +104,7 @@ module _ {M : Type 1} (𝓤 : URA M) (H : Heap 𝓤) (A : Atoms 𝓤) (W : Given
           (λ y. let more = added h s (sym e ∙ eqb-true r 0 (is-true (eqb r 0) y)) in
           assigns ! (addr ! (from ! (hop ! (look ! 14 refl) (stop !)))) (from ! (stop !)) (init ! 2 refl (tt, tt)) $
           calls-adding b o ! fm Nothing (λ n c. c ≡ withStep h s) (sval s)
-          (λ ν δ. via 𝓤 (Count 𝓤 H A at-mem run .pre (to-count ν δ)) (asks-count ν δ (more .0)) (known-count (to-count ν δ)))
+          (counts 𝓤 H A at-mem run W C known-count b o h s s-is (more .0))
           (λ ν δ. passes-at ! 2 refl (passes-at ! 12 refl (no-more !))) (λ n w c is unit.
           land-last ! (from ! (stop !)) (init ! 4 refl (unit-typed w unit)) $ forget ! 2 refl $ forget ! 4 refl $
           exec ! C Λ E code-mir.t-5 (atRet E Post) $ finish c (e, is ∙ more .1)))
@@ -161,5 +147,7 @@ add-step-spec 𝓤 H 𝓜 𝓖 𝓡 =
     (λ κs. ptr-vals & EL.vals S.the-type S′.the-laws & tt) (λ κs. mut-tells (named 0) (κs .0) T.the-row & EL.tells S.the-type S′.the-laws & tt)
     (λ κs qs bounds a g are. via 𝓤 _ (fst∗ 𝓤 _ (emp 𝓤))
     (walk 𝓤 H (𝓖 .A) W (𝓜 .mem) (𝓡 .run) (κs .0) (qs .0) (a .0 .ptr .0) (a .0 .ptr .1) (a .0 .name) (a .0 .now) (a .1 .0) (are .1 .0) C Λ fm
-    (cited 𝓤 H (Check 𝓤 H (𝓖 .A) (𝓜 .mem) (𝓡 .run)) 𝓜 𝓡 code.env #check-counts check-def.routine code.calls-runner·counts·check-counts (check-thm.met 𝓤 H 𝓜 𝓖 𝓡))
-    (cited 𝓤 H (Count 𝓤 H (𝓖 .A) (𝓜 .mem) (𝓡 .run)) 𝓜 𝓡 code.env #count-step count-def.routine code.calls-runner·count-step (count-thm.met 𝓤 H 𝓜 𝓖 𝓡)))))
+    (cited 𝓤 H (Check 𝓤 H (𝓖 .A) (𝓜 .mem)
+    (𝓡 .run)) 𝓜 𝓡 code.env #check-counts check-def.routine code.calls-runner·counts·check-counts (check-thm.met 𝓤 H 𝓜 𝓖 𝓡))
+    (cited 𝓤 H (Count 𝓤 H (𝓖 .A) (𝓜 .mem)
+    (𝓡 .run)) 𝓜 𝓡 code.env #count-step count-def.routine code.calls-runner·count-step (count-thm.met 𝓤 H 𝓜 𝓖 𝓡)))))

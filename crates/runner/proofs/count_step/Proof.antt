@@ -10,14 +10,13 @@ use Rattle.flash.proofs.steps.Step as S
 use Rattle.flash.proofs.steps.Step.Laws as S′
 use Rattle.runner.specs.Counts.{withStep, RoomFor}
 use Rattle.runner.specs.declared.counts.StepCounts.{StepCounts}
-use Rattle.runner.proofs.Logic.{List, [], _∷_, _≡_, refl, named, Val, vptr, Lft, Share, URA, Memory, Routine, Heap}
-use Rattle.runner.proofs.Logic.{Calls, Loops, WpFn, Atoms, sem, Fun, fact, FmC, ftrue, flft, fobs, fbor, SProp, ent, emp, via, exE, snd∗}
-use Rattle.runner.proofs.Logic.{Given, ‵, _⊛_, ⋆, !, _$_, _∵_, qed, by, move, keep, drop, split, join}
-use Rattle.runner.proofs.Logic.{fsplit, fsplit3, fjoin, fjoin3, feqI, suffices, frame, done, look, look-raw, init, store-raw, stop}
-use Rattle.runner.proofs.Logic.{hop, from, load, of-opd, no-more, assigns, land, returns, enter, params1, pass1, pass0, free0, peeks, closes}
-use Rattle.runner.proofs.Logic.{nothing, Is, shows, owns, RefT, MutRef, ptr-vals, mut-tells, yes, plain, ensured, lasts, onEntry}
-use Rattle.runner.proofs.Logic.{tripleOf, Contract, Triple, cited, Stays, stay-ref, stay-dropped, goes-dropped, goes-ref, walkOf, walked, says}
-use Rattle.runner.proofs.Logic.{needs, ends-at, givenOf, tables, by-walk}
+use Rattle.runner.proofs.Logic.{List, [], _∷_, _≡_, refl, named, Val, vptr, Lft, Share, URA, Memory, Routine, Heap, Calls, Loops, WpFn}
+use Rattle.runner.proofs.Logic.{Atoms, sem, Fun, fact, FmC, ftrue, flft, fobs, fbor, SProp, ent, emp, via, exE, snd∗, Given, ‵, _⊛_, ⋆, ! }
+use Rattle.runner.proofs.Logic.{_$_, _∵_, qed, by, move, keep, drop, split, join, fsplit, fsplit3, fjoin, fjoin3, feqI, suffices, frame}
+use Rattle.runner.proofs.Logic.{done, look, look-raw, init, store-raw, stop, hop, from, load, of-opd, no-more, assigns, land, returns}
+use Rattle.runner.proofs.Logic.{enter, params1, pass1, pass0, free0, peeks, closes, nothing, Is, shows, owns, RefT, MutRef, ptr-vals}
+use Rattle.runner.proofs.Logic.{mut-tells, yes, plain, ensured, lasts, onEntry, tripleOf, Contract, Triple, cited, Stays, stay-ref}
+use Rattle.runner.proofs.Logic.{stay-dropped, goes-dropped, goes-ref, walkOf, walked, says, needs, ends-at, givenOf, tables, by-walk}
 use Rattle.runner.proofs.Parameters.{_&_, makes-owned}
 use Rattle.runner.proofs.Walks.{val, tracked, held, allocated, frees-at, passes-at, calls-value, opens-counts}
 use Rattle.runner.proofs.count_step as f
@@ -85,7 +84,8 @@ module _ {M : Type 1} (𝓤 : URA M) (H : Heap 𝓤) (A : Atoms 𝓤) (W : Given
       -- _4 = *counts, and the call
       assigns ! (of-opd ! (load ! (from ! (hop ! (look ! 13 refl) (stop !))) (look-raw ! 0 refl))) (from ! (stop !))
       (init ! 7 refl (LL.lawful T.the-type T′.the-laws 𝓤 H A W .typed (y .now) _ was .0)) $
-      calls-value ! fm T.the-row (λ r. ensured 𝓤 H A more.ended (more.clauses 𝓤 H A at-mem run) tt (to-more .0 .3) tt r) (λ r. r ≡ withStep (y .now) s)
+      calls-value ! fm T.the-row (λ r. ensured 𝓤 H A more.ended (more.clauses 𝓤 H A at-mem run) tt (to-more .0 .3) tt r)
+      (λ r. r ≡ withStep (y .now) s)
       (λ r. exE 𝓤 _ (λ ws. snd∗ 𝓤 (sem 𝓤 H A (lasts more.ended tt (to-more .0 .3) ws)) (fact 𝓤 (r ≡ withStep (y .now) s))))
       (More 𝓤 H A at-mem run .args to-more) (via 𝓤 (More 𝓤 H A at-mem run .pre to-more) (asks was room) (known to-more))
       (passes-at ! 8 refl (passes-at ! 12 refl (no-more !))) (λ r w e is.

@@ -9,11 +9,8 @@ use prog.Wp.{Out, Env, spotOf, afterSeq, afterBlock, afterTurn, Wp, atReturn}
 use contract.Running.{tablesOf}
 use denote.Enum.Laws as EL
 use denote.Struct.Laws as LL
-use Rattle.flash.specs.declared.steps.Step.{Step}
 use Rattle.flash.proofs.geometry.Geometry as G
 use Rattle.flash.proofs.geometry.Geometry.Laws as G′
-use Rattle.flash.proofs.steps.Step as S
-use Rattle.flash.proofs.steps.Step.Laws as S′
 use Rattle.loader.specs.Checks.{imageChecks}
 use Rattle.loader.specs.declared.answers.Answer.{Answer}
 use Rattle.loader.proofs.answers.Answer as N
@@ -27,21 +24,21 @@ use Rattle.runner.proofs.Logic.{ℕ, _<_, List, [], _∷_, _≡_, refl,
 use Rattle.runner.proofs.Logic.{Share, length, URA, Memory, Routine, Heap, Calls, Loops, Tables, WpFn, Atoms, sem, Fun, fact, FmC, ftrue}
 use Rattle.runner.proofs.Logic.{fat, flft, SProp, ent, emp, via, exE, fst∗, snd∗, id⊢, Given, Item, Sq, anyQ, atRet, runs, ‵, raw, some}
 use Rattle.runner.proofs.Logic.{later, _⊛_, ⋆, !, _$_, _∵_, qed, by, move, drop, use1, use2, rewrite, split, join, pick, fsplit, fsplit3}
-use Rattle.runner.proofs.Logic.{fjoin, fjoin3, feqL, feqI, suffices, frame, await, done, agg, whole, sub, look-in, look, look-raw, init, store}
-use Rattle.runner.proofs.Logic.{forget, stop, hop, fld, from, load, addr, of-opd, and-then, no-more, assigns, land, land-last, first, blocks}
-use Rattle.runner.proofs.Logic.{branches, loops, again, Below, returns-within, enter, params1, pass1, pass0, free1, free0, only, owned, peeks}
-use Rattle.runner.proofs.Logic.{heard, nothing, bool, u8, u32, usize, Is, Ises, Are, valss, shows, Nothing, bool-makes}
-use Rattle.runner.proofs.Logic.{uint-makes, Denots, owns, flat, MutSlice, Room, sliceVal, named}
-use Rattle.runner.proofs.Logic.{yes, plain, calls-at, ensured, lasts, onEntry, tripleOf, Contract, Triple, cited, Stays, stay-ref}
-use Rattle.runner.proofs.Logic.{stay-slice, stay-dropped, goes-dropped, goes-ref, goes-slice, Walks, walkOf, walked, says, ends-at, givenOf}
-use Rattle.runner.proofs.Logic.{tables, by-walk}
+use Rattle.runner.proofs.Logic.{fjoin, fjoin3, feqL, feqI, suffices, frame, await, done, agg, whole, sub, look-in, look, look-raw, init}
+use Rattle.runner.proofs.Logic.{store, forget, stop, hop, fld, from, load, addr, of-opd, and-then, no-more, assigns, land, land-last}
+use Rattle.runner.proofs.Logic.{first, blocks, branches, loops, again, Below, returns-within, enter, params1, pass1, pass0, free1, free0}
+use Rattle.runner.proofs.Logic.{only, owned, peeks, heard, nothing, bool, u8, u32, usize, Is, Ises, Are, valss, shows, Nothing, bool-makes}
+use Rattle.runner.proofs.Logic.{uint-makes, Denots, owns, flat, MutSlice, Room, sliceVal, named, yes, plain, calls-at, ensured, lasts}
+use Rattle.runner.proofs.Logic.{onEntry, tripleOf, Contract, Triple, cited, Stays, stay-ref, stay-slice, stay-dropped, goes-dropped}
+use Rattle.runner.proofs.Logic.{goes-ref, goes-slice, Walks, walkOf, walked, says, ends-at, givenOf, tables, by-walk}
 use Rattle.runner.proofs.Adding.{calls-adding}
+use Rattle.runner.proofs.Counting.{sval, Count, counts}
 use Rattle.runner.proofs.Lending.{flashAt, countsAt, ownsFlash, ownsCounts, lends-flash, flash-back}
 use Rattle.runner.proofs.Parameters.{_&_, rowsOf, argsOf, valsOf, spellsOf, tellsOf, with-units, makes-owned, drops-owned, adds-trues}
 use Rattle.runner.proofs.Passing.{Rs, spells, tells, tokens, outcome}
 use Rattle.runner.proofs.Standings.{Stands, stands, stops, room-for-one, goes-on}
-use Rattle.runner.proofs.Walks.{is-true, is-false, unit-typed, Blocks, env, val, allocated, frees-at, holds, vacant, passes-at, calls-value, opens-counts, closes-counts}
-use Rattle.runner.proofs.count_step as count
+use Rattle.runner.proofs.Walks.{is-true, is-false, unit-typed, Blocks, env, val, allocated, frees-at, holds, vacant, passes-at, calls-value}
+use Rattle.runner.proofs.Walks.{opens-counts, closes-counts}
 use Rattle.runner.proofs.count_step.Met as count-thm
 use Rattle.runner.proofs.count_step.Symbol as count-def
 use Rattle.runner.proofs.count_step.Symbol.{name as #count-step}
@@ -68,23 +65,17 @@ stayed =
     stay-slice (0 ∷ []) tt (plain (λ _. u8)) & stay-dropped _ yes & stay-dropped _ yes & stay-dropped _ yes & stay-dropped _ yes
     & stay-ref (1 ∷ []) tt (plain (λ _. T.the-row)) & tt
 
--- the machine values of where a run stands, and of a step
+-- the machine value of where a run stands
 abbrev pval : Standing → Val
 pval t = LL.val P.the-type P′.the-laws t
 
-abbrev sval : Step → Val
-sval s = EL.val S.the-type S′.the-laws s
-
--- ---- the contracts that the proof cites
+-- ---- the contracts that the proof cites, beside `Counting.antt`'s
 module _ {M : Type 1} (𝓤 : URA M) (H : Heap 𝓤) (A : Atoms 𝓤) (at-mem : Memory → SProp 𝓤) (run : Routine → Fun 𝓤) where
   abbrev Begin : Contract 𝓤
   Begin = tripleOf 𝓤 H A begin.signature (begin.spec 𝓤 H A at-mem run)
 
   abbrev Proceed : Contract 𝓤
   Proceed = tripleOf 𝓤 H A proceed.signature (proceed.spec 𝓤 H A at-mem run)
-
-  abbrev Count : Contract 𝓤
-  Count = tripleOf 𝓤 H A count.signature (count.spec 𝓤 H A at-mem run)
 
 module _ {M : Type 1} (𝓤 : URA M) (H : Heap 𝓤) (A : Atoms 𝓤) (W : Given 𝓤 H A) (at-mem : Memory → SProp 𝓤) (run : Routine → Fun 𝓤) (κ κ′ : Lft)
     (q q′ : Share) (b o : ℕ) (γ : GName) (ys : List ℕ) (ps : Denots Rs) (b′ o′ : ℕ) (γ′ : GName) (h : StepCounts)
@@ -120,7 +111,8 @@ module _ {M : Type 1} (𝓤 : URA M) (H : Heap 𝓤) (A : Atoms 𝓤) (W : Given
       let t = bool-makes 𝓤 H A W in
       qed W [] ∵ nothing ! $ makes-owned ! (G.the-row ∷ usize ∷ bool ∷ bool ∷ u32 ∷ T.the-row ∷ [])
       (LL.makes G.the-type G′.the-plain 𝓤 H A & uint-makes 𝓤 H A W w64 & t & t & uint-makes 𝓤 H A W w32 & LL.makes T.the-type T′.the-plain 𝓤 H A & tt)
-      (to-begin .0 .3) (to-begin .0 .4) (are .0 & (refl, room .0) & are .1 .0 & are .1 .1 .0 & are .1 .1 .1 .0 & is & tt) $ nothing ! $ join ! $ frame ! $ done !
+      (to-begin .0 .3) (to-begin .0 .4) (are .0 & (refl, room .0) & are .1 .0 & are .1 .1 .0 & are .1 .1 .1 .0 & is & tt) $ nothing ! $ join ! $
+      frame ! $ done !
 
   abbrev Begun : Standing → Type 0
   Begun t =
@@ -128,26 +120,28 @@ module _ {M : Type 1} (𝓤 : URA M) (H : Heap 𝓤) (A : Atoms 𝓤) (W : Given
       × (0 < t .left → RoomFor h (t .left))
 
   abbrev to-proceed : ℕ → GName → Standing → List ℕ → Proceed 𝓤 H A at-mem run .Ghost
-  to-proceed ν δ t l = (((ν ∷ []) & tt, fullShare & tt, tt, flashAt b o δ l & ps .0 & t & tt, (sliceVal (b, o) (length l) ∷ []) & vs .0 & (pval t ∷ []) & tt), tt)
+  to-proceed ν δ t l = (
+    (
+      (ν ∷ []) & tt,
+      fullShare & tt,
+      tt,
+      flashAt b o δ l & ps .0 & t & tt,
+      (sliceVal (b, o) (length l) ∷ []) & vs .0 & (pval t
+          ∷ []) & tt,
+    ),
+    tt,
+  )
 
   asks-proceed : (ν : ℕ) (δ : GName) (t : Standing) (l : List ℕ) → Is P.the-row t (pval t ∷ [])
       → ent 𝓤 (⋆ 𝓤 H A (‵ (flft (ν ∷ []) fullShare) ∷ ‵ (ownsFlash b o (ν ∷ []) δ l) ∷ [])) (Proceed 𝓤 H A at-mem run .pre (to-proceed ν δ t l))
   asks-proceed ν δ t l is =
       qed W (‵ (flft (ν ∷ []) fullShare) ∷ ‵ (ownsFlash b o (ν ∷ []) δ l) ∷ []) ∵ nothing ! $ move ! (1 ∷ 0 ∷ []) $ join ! $ nothing ! $
       makes-owned ! (G.the-row ∷ P.the-row ∷ []) (LL.makes G.the-type G′.the-plain 𝓤 H A & LL.makes P.the-type P′.the-plain 𝓤 H A & tt)
-      (ps .0 & t & tt) (vs .0 & (pval t ∷ []) & tt) (are .0 & is & tt) $ move ! (2 ∷ 0 ∷ []) $ fjoin ! $ move ! (1 ∷ 0 ∷ []) $ join ! $ frame ! $ done !
+      (ps .0 & t & tt) (vs .0 & (pval t ∷ []) & tt) (are .0 & is & tt) $ move ! (2 ∷ 0 ∷ []) $ fjoin ! $ move ! (1 ∷ 0 ∷ []) $ join ! $ frame ! $
+      done !
 
   abbrev Proceeded : Standing → List ℕ → Standing → List ℕ → Type 0
   Proceeded t l r zs = (outcomeOf imageChecks (ps .0) r zs ≡ restOf imageChecks (ps .0) t l) × (r .did ≡ true → r .left < t .left)
-
-  abbrev to-count : ℕ → GName → StepCounts → Step → Count 𝓤 H A at-mem run .Ghost
-  to-count ν δ c s = (((ν ∷ []) & tt, fullShare & tt, tt, countsAt b′ o′ δ c & s & tt, (vptr b′ o′ ∷ []) & (sval s ∷ []) & tt), tt)
-
-  asks-count : (ν : ℕ) (δ : GName) (c : StepCounts) (s : Step) → Is S.the-row s (sval s ∷ []) → RoomFor c 1
-      → ent 𝓤 (⋆ 𝓤 H A (‵ (flft (ν ∷ []) fullShare) ∷ ‵ (ownsCounts b′ o′ (ν ∷ []) δ c) ∷ [])) (Count 𝓤 H A at-mem run .pre (to-count ν δ c s))
-  asks-count ν δ c s is one =
-      qed W (‵ (flft (ν ∷ []) fullShare) ∷ ‵ (ownsCounts b′ o′ (ν ∷ []) δ c) ∷ []) ∵ says ! one $ nothing ! $ move ! (1 ∷ 0 ∷ []) $ join ! $ frame ! $ nothing ! $
-      makes-owned ! (S.the-row ∷ []) (EL.makes S.the-type S′.the-plain 𝓤 H A & tt) (s & tt) ((sval s ∷ []) & tt) (is & tt) $ move ! (1 ∷ 0 ∷ []) $ fjoin ! $ done !
 
   -- ---- the exit
   exits : (r : Answer) (v : Val) → Is N.the-row r (v ∷ []) → (zs : List ℕ) (c : StepCounts) → Leaves h whole-run r zs c → length zs ≡ length ys
@@ -214,14 +208,18 @@ module _ {M : Type 1} (𝓤 : URA M) (H : Heap 𝓤) (A : Atoms 𝓤) (W : Given
           let l = u .l in
           let c = u .c in
           -- [the flash; its token; the record; its token; _14; …; _13; …; (and so on)]: _10 and _11, the flash lent again, and `proceed`
-          assigns ! (addr ! (from ! (fld ! refl (hop ! (look-in ! 30 (sub ! 0 refl (whole !))) (stop !))))) (from ! (stop !)) (init ! 12 refl (tt, tt)) $
-          assigns ! (agg ! (passes-at ! 12 refl (and-then ! (load ! (from ! (fld ! refl (stop !))) (look-in ! 30 (sub ! 1 refl (whole !)))) (no-more !))))
+          assigns ! (addr ! (from ! (fld ! refl (hop ! (look-in ! 30 (sub ! 0 refl (whole !))) (stop !))))) (from ! (stop !))
+          (init ! 12 refl (tt, tt)) $
+          assigns ! (agg ! (passes-at ! 12 refl (and-then ! (load ! (from ! (fld ! refl (stop !))) (look-in ! 30 (sub ! 1 refl (whole !))))
+          (no-more !))))
           (from ! (stop !)) (init ! 10 refl (tt, (tt, (record { fits = room .0 }, tt)))) $
           rewrite ! 10 (λ (m : ℕ). ‵ (fat fullShare (spotOf 𝓤 H E 11 .0) (spotOf 𝓤 H E 11 .1) 0 (sliceVal (b, o) m))) (sym (u .same-length)) refl $
           lends-flash b o ! tt l (λ ν δ. use2 W (raw (Proceed 𝓤 H A at-mem run .pre (to-proceed ν δ t l))) (asks-proceed ν δ t l (u .is)) $
-          calls-at ! fm (Proceed 𝓤 H A at-mem run) known-proceed (to-proceed ν δ t l) (passes-at ! 10 refl (passes-at ! 28 refl (passes-at ! 18 refl (no-more !)))) (λ w.
+          calls-at ! fm (Proceed 𝓤 H A at-mem run) known-proceed (to-proceed ν δ t l)
+          (passes-at ! 10 refl (passes-at ! 28 refl (passes-at ! 18 refl (no-more !)))) (λ w.
           use1 W (later (some (λ (r : Standing). ((‵ (flft (ν ∷ []) fullShare) ⊛ ‵ ftrue) ⊛ ‵ (P.the-row .own r (w ∷ [])))
-          ⊛ raw (ensured 𝓤 H A proceed.ended (proceed.clauses 𝓤 H A at-mem run) ((ν ∷ []) & tt) (to-proceed ν δ t l .0 .3) tt r)))) (id⊢ 𝓤 _) $ await ! tt $ pick ! (λ r.
+          ⊛ raw (ensured 𝓤 H A proceed.ended (proceed.clauses 𝓤 H A at-mem run) ((ν ∷ []) & tt) (to-proceed ν δ t l .0 .3) tt r)))) (id⊢ 𝓤 _) $
+          await ! tt $ pick ! (λ r.
           split ! $ move ! (1 ∷ []) $ use1 W (some (λ (zs : List ℕ × (Unit {0} × (Unit {0} × Unit {0}))).
           ‵ (lasts proceed.ended ((ν ∷ []) & tt) (to-proceed ν δ t l .0 .3) zs) ⊛ raw (fact 𝓤 (Proceeded t l r (zs .0))))) (id⊢ 𝓤 _) $ pick ! (λ zs.
           split ! $ move ! (1 ∷ []) $ heard ! (Proceeded t l r (zs .0)) (λ e. fsplit ! $ fsplit ! $ move ! (1 ∷ []) $ feqL ! (λ len.
@@ -232,9 +230,11 @@ module _ {M : Type 1} (𝓤 : URA M) (H : Heap 𝓤) (A : Atoms 𝓤) (W : Given
           land ! (from ! (stop !)) (store ! 21 refl (LL.lawful P.the-type P′.the-laws 𝓤 H A W .typed r _ is .0)) $
           drop ! $ split ! $ move ! (0 ∷ 4 ∷ 2 ∷ []) $ flash-back b o ! tt l (zs .0) (subst (Room u8) (sym (u .same-length)) room) len $
           move ! (2 ∷ 3 ∷ []) $ drop ! $ drop ! $
-          rewrite ! 18 (λ (v : Val). ‵ (fat fullShare (spotOf 𝓤 H E 7 .0) (spotOf 𝓤 H E 7 .1) 0 v)) (ap only (LL.tells P.the-type P′.the-laws r (w ∷ []) is)) refl $
+          rewrite ! 18 (λ (v : Val). ‵ (fat fullShare (spotOf 𝓤 H E 7 .0) (spotOf 𝓤 H E 7 .1) 0 v))
+          (ap only (LL.tells P.the-type P′.the-laws r (w ∷ []) is)) refl $
           -- [the flash; its token; the record; its token; _14; …]: the test
-          assigns ! (of-opd ! (load ! (from ! (fld ! refl (stop !))) (look-in ! 18 (sub ! 0 refl (whole !))))) (from ! (stop !)) (init ! 8 refl (tt, tt)) $
+          assigns ! (of-opd ! (load ! (from ! (fld ! refl (stop !))) (look-in ! 18 (sub ! 0 refl (whole !))))) (from ! (stop !))
+          (init ! 8 refl (tt, tt)) $
           branches ! (load ! (from ! (stop !)) (look ! 8 refl))
           -- a step was done: _14, the record lent again, and `count_step`
           (λ y.
@@ -243,7 +243,7 @@ module _ {M : Type 1} (𝓤 : URA M) (H : Heap 𝓤) (A : Atoms 𝓤) (W : Given
           let one = room-for-one imageChecks (ps .0) h whole-run t l c (u .inv) r (zs .0) (e .0) d (e .1 d) in
           assigns ! (addr ! (from ! (hop ! (look ! 20 refl) (stop !)))) (from ! (stop !)) (init ! 4 refl (tt, tt)) $
           move ! (2 ∷ 3 ∷ []) $ calls-adding b′ o′ ! fm Nothing (λ n k. k ≡ withStep c s) (sval s)
-          (λ ν′ δ′. via 𝓤 (Count 𝓤 H A at-mem run .pre (to-count ν′ δ′ c s)) (asks-count ν′ δ′ c s (parts .1 .0) one) (known-count (to-count ν′ δ′ c s)))
+          (counts 𝓤 H A at-mem run W C known-count b′ o′ c s (parts .1 .0) one)
           (λ ν′ δ′. passes-at ! 4 refl (and-then ! (load ! (from ! (fld ! refl (stop !))) (look-in ! 18 (sub ! 1 refl (whole !)))) (no-more !)))
           (λ n w′ k more unit. rewrite ! 0 (λ (k′ : StepCounts). ‵ (ownsCounts b′ o′ κ′ γ′ k′)) more refl $
           -- [the record; its token; the flash; its token; _14; …]: _13 = ()
@@ -334,5 +334,7 @@ run-spec 𝓤 H 𝓜 𝓖 𝓡 =
     (f.clauses 𝓤 H (𝓖 .A) (𝓜 .mem) (𝓡 .run)) #run code.function (code.unfolded 𝓤 H 𝓜 𝓡)
     (walks 𝓤 H (𝓖 .A) W (𝓜 .mem) (𝓡 .run) (tablesOf 𝓤 H 𝓜 (tables 𝓤 H 𝓜 𝓡 code.env))
     (cited 𝓤 H (Begin 𝓤 H (𝓖 .A) (𝓜 .mem) (𝓡 .run)) 𝓜 𝓡 code.env #begin begin-def.routine code.calls-runner·standing·begin (begin-thm.met 𝓤 H 𝓜 𝓖 𝓡))
-    (cited 𝓤 H (Proceed 𝓤 H (𝓖 .A) (𝓜 .mem) (𝓡 .run)) 𝓜 𝓡 code.env #proceed proceed-def.routine code.calls-runner·standing·proceed (proceed-thm.met 𝓤 H 𝓜 𝓖 𝓡))
-    (cited 𝓤 H (Count 𝓤 H (𝓖 .A) (𝓜 .mem) (𝓡 .run)) 𝓜 𝓡 code.env #count-step count-def.routine code.calls-runner·count-step (count-thm.met 𝓤 H 𝓜 𝓖 𝓡)))
+    (cited 𝓤 H (Proceed 𝓤 H (𝓖 .A) (𝓜 .mem)
+    (𝓡 .run)) 𝓜 𝓡 code.env #proceed proceed-def.routine code.calls-runner·standing·proceed (proceed-thm.met 𝓤 H 𝓜 𝓖 𝓡))
+    (cited 𝓤 H (Count 𝓤 H (𝓖 .A) (𝓜 .mem)
+    (𝓡 .run)) 𝓜 𝓡 code.env #count-step count-def.routine code.calls-runner·count-step (count-thm.met 𝓤 H 𝓜 𝓖 𝓡)))

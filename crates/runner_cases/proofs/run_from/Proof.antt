@@ -12,13 +12,14 @@ use Rattle.loader.proofs.answers.Answer.Laws as N′
 use Rattle.runner.specs.Runs.{Leaves}
 use Rattle.runner.specs.declared.counts.StepCounts.{StepCounts}
 use Rattle.runner_cases.specs.declared.Ran.{Ran}
-use Rattle.runner.proofs.Logic.{ℕ, List, [], _∷_, _≡_, refl, ap, subst, fullShare, named, Val, Lft, Share, length, URA, Memory, Routine, Heap, Calls}
-use Rattle.runner.proofs.Logic.{Loops, WpFn, Atoms, Fun, FmC, fat, ftrue, flft, SProp, ent, emp, via, fst∗, Given, ‵, raw, _⊛_, ⋆, !, _$_, _∵_, qed, by}
-use Rattle.runner.proofs.Logic.{move, keep, drop, use3, rewrite, split, join, fsplit, fjoin, suffices, frame, done, agg, whole, sub, look-in, look, init}
-use Rattle.runner.proofs.Logic.{forget, stop, hop, fld, from, load, addr, of-opd, and-then, no-more, assigns, land, returns, enter, params1, pass1, pass0}
-use Rattle.runner.proofs.Logic.{free1, free0, only, owned, nothing, bool, u8, u32, Is, Ises, Are, Spells, Tellss, valss, RattleType, Denots, owns, flat}
-use Rattle.runner.proofs.Logic.{RefT, MutSlice, Room, sliceVal, finally, yes, plain, calls-at, onEntry, Triple, cited, Stays, stay-dropped}
-use Rattle.runner.proofs.Logic.{gave-slice, goes-dropped, goes-gave-slice, Walks, walkOf, walked, says, ends-at, givenOf, tables, by-walk}
+use Rattle.runner.proofs.Logic.{ℕ, List, [], _∷_, _≡_, refl, ap, subst, fullShare, named, Val, Lft, Share, length, URA, Memory, Routine, Heap}
+use Rattle.runner.proofs.Logic.{Calls, Loops, WpFn, Atoms, Fun, FmC, fat, ftrue, flft, SProp, ent, emp, via, fst∗, Given, ‵, raw, _⊛_, ⋆, !, _$_}
+use Rattle.runner.proofs.Logic.{_∵_, qed, by, move, keep, drop, use3, rewrite, split, join, fsplit, fjoin, suffices, frame, done, agg, whole, sub}
+use Rattle.runner.proofs.Logic.{look-in, look, init, forget, stop, hop, fld, from, load, addr, of-opd, and-then, no-more, assigns, land, returns}
+use Rattle.runner.proofs.Logic.{enter, params1, pass1, pass0, free1, free0, only, owned, nothing, bool, u8, u32, Is, Ises, Are, Spells, Tellss}
+use Rattle.runner.proofs.Logic.{valss, RattleType, Denots, owns, flat, RefT, MutSlice, Room, sliceVal, finally, yes, plain, calls-at, onEntry}
+use Rattle.runner.proofs.Logic.{Triple, cited, Stays, stay-dropped, gave-slice, goes-dropped, goes-gave-slice, Walks, walkOf, walked, says}
+use Rattle.runner.proofs.Logic.{ends-at, givenOf, tables, by-walk}
 use Rattle.runner.proofs.Lending.{countsAt, lends-local, local-back}
 use Rattle.runner.proofs.Parameters.{_&_, with-units, adds-trues}
 use Rattle.runner.proofs.Passing as P
@@ -84,7 +85,8 @@ module _ {M : Type 1} (𝓤 : URA M) (H : Heap 𝓤) (A : Atoms 𝓤) (W : Given
       → length zs ≡ length (x .now) → ent 𝓤 (⋆ 𝓤 H A (‵ (flft κ q) ∷ ‵ (finally u8 (x .name) zs) ∷ [])) (Post (dval r c))
   exits r c is zs e l =
       qed W (‵ (flft κ q) ∷ ‵ (finally u8 (x .name) zs) ∷ []) ∵ suffices ! _
-      (ends-at 𝓤 H A f.ended stayed (f.clauses 𝓤 H A at-mem run) W bound (dval r c) (result r c) (zs & with-units Rs tt) (l & with-units Rs tt)) $ says ! e $
+      (ends-at 𝓤 H A f.ended stayed (f.clauses 𝓤 H A at-mem run) W bound (dval r c) (result r c) (zs & with-units Rs tt) (l & with-units Rs tt)) $
+      says ! e $
       nothing ! $ move ! (1 ∷ 0 ∷ []) $ join ! $ frame ! $ nothing ! $ adds-trues ! Rs $ move ! (1 ∷ 0 ∷ []) $ fjoin ! $
       owned ! D.the-row (Is D.the-row) (LL.makes D.the-type D′.the-plain 𝓤 H A) (result r c) (dval r c ∷ []) is $ move ! (1 ∷ 0 ∷ []) $ done !
 
@@ -103,7 +105,8 @@ module _ {M : Type 1} (𝓤 : URA M) (H : Heap 𝓤) (A : Atoms 𝓤) (W : Given
         -- passed on and _7 lent
         assigns ! (of-opd ! (load ! (from ! (stop !)) (look ! 12 refl))) (from ! (stop !)) (init ! 10 refl (typed h _ h-is .0)) $
         assigns ! (addr ! (from ! (fld ! refl (hop ! (look-in ! 22 (sub ! 0 refl (whole !))) (stop !))))) (from ! (stop !)) (init ! 6 refl (tt, tt)) $
-        assigns ! (agg ! (passes-at ! 6 refl (and-then ! (load ! (from ! (fld ! refl (stop !))) (look-in ! 22 (sub ! 1 refl (whole !)))) (no-more !))))
+        assigns ! (agg ! (passes-at ! 6 refl (and-then ! (load ! (from ! (fld ! refl (stop !))) (look-in ! 22 (sub ! 1 refl (whole !))))
+        (no-more !))))
         (from ! (stop !)) (init ! 4 refl (tt, (tt, (record { fits = room .0 }, tt)))) $
         assigns ! (addr ! (from ! (stop !))) (from ! (stop !)) (init ! 2 refl (tt, tt)) $
         let b = bs .1 .1 .1 .1 .1 .1 .1 .0 in
@@ -138,7 +141,8 @@ module _ {M : Type 1} (𝓤 : URA M) (H : Heap 𝓤) (A : Atoms 𝓤) (W : Given
       (λ κs. slice-vals & spells) (λ κs. mut-slice-tells (named 0) (κs .0) u8 & tells)
       (λ κs qs bounds a g are.
       via 𝓤 _ (fst∗ 𝓤 _ (emp 𝓤)) (walk 𝓤 H A W at-mem run (κs .0) (qs .0) (a .0) (a .1 .0 & a .1 .1 .0 & a .1 .1 .1 .0 & a .1 .1 .1 .1 .0 & tt)
-      (a .1 .1 .1 .1 .1 .0) (are .1 .0 & are .1 .1 .0 & are .1 .1 .1 .0 & are .1 .1 .1 .1 .0 & tt) (are .1 .1 .1 .1 .1 .0) C Λ fm known (are .0 .0 .1)))
+      (a .1 .1 .1 .1 .1 .0) (are .1 .0 & are .1 .1 .0 & are .1 .1 .1 .0 & are .1 .1 .1 .1 .0 & tt)
+      (are .1 .1 .1 .1 .1 .0) C Λ fm known (are .0 .0 .1)))
 
 pub run-from-spec : {M : Type 1} → stated.statement M
 unfolding code.routine

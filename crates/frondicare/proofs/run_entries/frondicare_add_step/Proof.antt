@@ -16,14 +16,15 @@ use Rattle.frondicare.specs.Additions.{stepBy, additionCheck, countsLeft
 use Rattle.frondicare.specs.declared.flash_entries.OptionalStep.the-variants.{Some, None}
 use Rattle.frondicare.specs.declared.run_entries.AskedStep.{AskedStep}
 use Rattle.runner.proofs.Logic.{ℕ, _<_, _^_, [], _∷_, _≡_, refl, ap, subst, fullShare, named, w32, Val, vbool, vint, vptr, Lft, GName, Share, URA}
-use Rattle.runner.proofs.Logic.{Memory, Routine, Heap, Calls, Loops, WpFn, Atoms, sem, Fun, fact, FmC, List, ftrue, fat, flft, SProp, ent, emp, via, exE}
-use Rattle.runner.proofs.Logic.{fst∗, snd∗, Given, Item, Sq, atRet, runs, ‵, _⊛_, ⋆, !, _$_, _∵_, qed, by, move, drop, rewrite, split, join, fsplit}
-use Rattle.runner.proofs.Logic.{fjoin, suffices, frame, done, whole, sub, look-in, look, init, forget, stop, hop, fld, from, load, addr, of-opd}
-use Rattle.runner.proofs.Logic.{and-then, no-more, assigns, land, land-last, first, branches, returns, enter, params1, pass1, pass0, free1, free0, only}
-use Rattle.runner.proofs.Logic.{owned, nothing, u32, Is, uint-makes, uint-vals, uint-tells, uint-lawful, owns, MutRef, ptr-vals, mut-tells, yes, plain}
-use Rattle.runner.proofs.Logic.{ensured, lasts, onEntry, tripleOf, Contract, Triple, cited, Stays, stay-ref, stay-dropped, goes-dropped, goes-ref}
-use Rattle.runner.proofs.Logic.{walkOf, walked, says, ends-at, givenOf, tables, by-walk}
+use Rattle.runner.proofs.Logic.{Memory, Routine, Heap, Calls, Loops, WpFn, Atoms, sem, Fun, fact, FmC, List, ftrue, fat, flft, SProp, ent, emp}
+use Rattle.runner.proofs.Logic.{via, exE, fst∗, snd∗, Given, Item, Sq, atRet, runs, ‵, _⊛_, ⋆, !, _$_, _∵_, qed, by, move, drop, rewrite, split}
+use Rattle.runner.proofs.Logic.{join, fsplit, fjoin, suffices, frame, done, whole, sub, look-in, look, init, forget, stop, hop, fld, from, load}
+use Rattle.runner.proofs.Logic.{addr, of-opd, and-then, no-more, assigns, land, land-last, first, branches, returns, enter, params1, pass1, pass0}
+use Rattle.runner.proofs.Logic.{free1, free0, only, owned, nothing, u32, Is, uint-makes, uint-vals, uint-tells, uint-lawful, owns, MutRef}
+use Rattle.runner.proofs.Logic.{ptr-vals, mut-tells, yes, plain, ensured, lasts, onEntry, tripleOf, Contract, Triple, cited, Stays, stay-ref}
+use Rattle.runner.proofs.Logic.{stay-dropped, goes-dropped, goes-ref, walkOf, walked, says, ends-at, givenOf, tables, by-walk}
 use Rattle.runner.proofs.Adding.{loan, calls-adding}
+use Rattle.runner.proofs.Counting.{sval}
 use Rattle.runner.proofs.Lending.{countsAt, ownsCounts}
 use Rattle.runner.proofs.Parameters.{_&_, makes-owned}
 use Rattle.runner.proofs.Walks.{is-true, is-false, Blocks, env, allocated, frees-at, holds, vacant, passes-at, calls-value}
@@ -47,10 +48,7 @@ use Rattle.frondicare.proofs.run_entries.frondicare_add_step.Statement 
 abbrev stayed : Stays (f.ended .signature .params) (f.ended .kept)
 stayed = stay-ref (0 ∷ []) tt (plain (λ _. T.the-row)) & stay-dropped _ yes & tt
 
--- the machine values of a step, and of what an op asks for
-abbrev sval : Step → Val
-sval s = EL.val S.the-type S′.the-laws s
-
+-- the machine value of what an op asks for
 abbrev dval : AskedStep → Val
 dval r = LL.val D.the-type D′.the-laws r
 
@@ -95,7 +93,8 @@ module _ {M : Type 1} (𝓤 : URA M) (H : Heap 𝓤) (A : Atoms 𝓤) (W : Given
   abbrev to-add : ℕ → GName → Step → Add 𝓤 H A at-mem run .Ghost
   to-add ν δ s = (((ν ∷ []) & tt, fullShare & tt, tt, countsAt b o δ h & s & tt, (vptr b o ∷ []) & (sval s ∷ []) & tt), tt)
 
-  asks-add : (ν : ℕ) (δ : GName) (s : Step) → Is S.the-row s (sval s ∷ []) → ent 𝓤 (⋆ 𝓤 H A (loan b o ν δ h ∷ [])) (Add 𝓤 H A at-mem run .pre (to-add ν δ s))
+  asks-add : (ν : ℕ) (δ : GName) (s : Step) → Is S.the-row s (sval s ∷ []) → ent 𝓤 (⋆ 𝓤 H A (loan b o ν δ h ∷ []))
+      (Add 𝓤 H A at-mem run .pre (to-add ν δ s))
   asks-add ν δ s is =
       qed W (loan b o ν δ h ∷ []) ∵ split ! $ nothing ! $ move ! (1 ∷ 0 ∷ []) $ join ! $ nothing ! $
       makes-owned ! (S.the-row ∷ []) (EL.makes S.the-type S′.the-plain 𝓤 H A & tt) (s & tt) ((sval s ∷ []) & tt) (is & tt) $
@@ -152,11 +151,13 @@ module _ {M : Type 1} (𝓤 : URA M) (H : Heap 𝓤) (A : Atoms 𝓤) (W : Given
         -- [_6; …; (and so on, down to) _1; …; room for _0; …; the token; what the parameters own]: _3 = what is asked, and the test
         calls-value ! fm D.the-row (λ r. ensured 𝓤 H A ask.ended (ask.clauses 𝓤 H A at-mem run) tt (to-ask .0 .3) tt r) (Asked op)
         (λ r. exE 𝓤 _ (λ ws. snd∗ 𝓤 (sem 𝓤 H A (lasts ask.ended tt (to-ask .0 .3) ws)) (fact 𝓤 (Asked op r))))
-        (Ask 𝓤 H A at-mem run .args to-ask) (via 𝓤 (Ask 𝓤 H A at-mem run .pre to-ask) asks-ask (known-ask to-ask)) (passes-at ! 9 refl (no-more !)) (λ r w e is.
+        (Ask 𝓤 H A at-mem run .args to-ask) (via 𝓤 (Ask 𝓤 H A at-mem run .pre to-ask) asks-ask (known-ask to-ask))
+        (passes-at ! 9 refl (no-more !)) (λ r w e is.
         let told = LL.tells D.the-type D′.the-laws r (w ∷ []) is in
         land ! (from ! (stop !)) (init ! 7 refl (LL.lawful D.the-type D′.the-laws 𝓤 H A W .typed r _ is .0)) $ drop ! $
         rewrite ! 6 (λ (v : Val). ‵ (fat fullShare D′.mir (bs .1 .1 .1 .0) 0 v)) (ap only told) refl $
-        assigns ! (of-opd ! (load ! (from ! (fld ! refl (stop !))) (look-in ! 6 (sub ! 0 refl (whole !))))) (from ! (stop !)) (init ! 4 refl (tt, tt)) $
+        assigns ! (of-opd ! (load ! (from ! (fld ! refl (stop !))) (look-in ! 6 (sub ! 0 refl (whole !))))) (from ! (stop !))
+        (init ! 4 refl (tt, tt)) $
         move ! (15 ∷ []) $ fsplit ! $ move ! (1 ∷ []) $ drop ! $ move ! (15 ∷ []) $ split ! $ move ! (1 ∷ []) $ drop ! $ move ! (1 ∷ 0 ∷ []) $
         tested bs r e (subst (Is D.the-row r) told is)))
 

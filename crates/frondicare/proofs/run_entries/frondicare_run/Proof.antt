@@ -18,14 +18,14 @@ use Rattle.runner.specs.declared.counts.StepCounts.{StepCounts}
 use Rattle.frondicare.specs.Answers.{flatAnswer, FlatLeaves}
 use Rattle.frondicare.specs.Steps.{geometryOf}
 use Rattle.frondicare.specs.declared.loader_entries.FlatAnswer.{FlatAnswer}
-use Rattle.runner.proofs.Logic.{ℕ, List, [], _∷_, _≡_, refl, ap, subst, _∙_, fullShare, w32, w64, Val, Lft, Share, length, URA, Memory, Routine, Heap}
-use Rattle.runner.proofs.Logic.{Calls, Loops, WpFn, Atoms, sem, Fun, fact, FmC, fat, SProp, ent, emp, via, exE, fst∗, snd∗, Given, ‵, raw, ⋆, !, _$_, _∵_}
-use Rattle.runner.proofs.Logic.{qed, by, move, keep, drop, use3, rewrite, join, fsplit, fjoin, suffices, frame, done, agg, whole, sub, look-in, look, init}
-use Rattle.runner.proofs.Logic.{stop, hop, fld, from, load, addr, and-then, no-more, assigns, land, returns, enter, params1, pass1, pass0, free0, only}
-use Rattle.runner.proofs.Logic.{nothing, bool, u8, u32, usize, Is, Ises, Are, Spells, Tellss, valss, bool-vals, bool-tells, uint-makes, uint-vals}
-use Rattle.runner.proofs.Logic.{uint-tells, RattleType, Denots, owns, flat, RefT, Room, finally, yes, plain, calls-at, ensured, lasts, onEntry, tripleOf}
-use Rattle.runner.proofs.Logic.{Contract, Triple, cited, Stays, stay-dropped, gave-slice, goes-dropped, goes-gave-slice, Walks, walkOf, walked, says}
-use Rattle.runner.proofs.Logic.{ends-at, givenOf, tables, by-walk}
+use Rattle.runner.proofs.Logic.{ℕ, List, [], _∷_, _≡_, refl, ap, subst, _∙_, fullShare, w32, w64, Val, Lft, Share, length, URA, Memory, Routine}
+use Rattle.runner.proofs.Logic.{Heap, Calls, Loops, WpFn, Atoms, sem, Fun, fact, FmC, fat, SProp, ent, emp, via, exE, fst∗, snd∗, Given, ‵, raw}
+use Rattle.runner.proofs.Logic.{⋆, !, _$_, _∵_, qed, by, move, keep, drop, use3, rewrite, join, fsplit, fjoin, suffices, frame, done, agg, whole}
+use Rattle.runner.proofs.Logic.{sub, look-in, look, init, stop, hop, fld, from, load, addr, and-then, no-more, assigns, land, returns, enter}
+use Rattle.runner.proofs.Logic.{params1, pass1, pass0, free0, only, nothing, bool, u8, u32, usize, Is, Ises, Are, Spells, Tellss, valss}
+use Rattle.runner.proofs.Logic.{bool-vals, bool-tells, uint-makes, uint-vals, uint-tells, RattleType, Denots, owns, flat, RefT, Room, finally}
+use Rattle.runner.proofs.Logic.{yes, plain, calls-at, ensured, lasts, onEntry, tripleOf, Contract, Triple, cited, Stays, stay-dropped, gave-slice}
+use Rattle.runner.proofs.Logic.{goes-dropped, goes-gave-slice, Walks, walkOf, walked, says, ends-at, givenOf, tables, by-walk}
 use Rattle.runner.proofs.Parameters.{_&_, rowsOf, argsOf, valsOf, spellsOf, tellsOf, with-units, makes-owned, drops-owned, adds-trues}
 use Rattle.runner.proofs.Passing.{tokens, Run, to-run, asks-run, ran}
 use Rattle.runner.proofs.Walks.{tracked, allocated, frees-at, passes-at, calls-value}
@@ -125,7 +125,8 @@ module _ {M : Type 1} (𝓤 : URA M) (H : Heap 𝓤) (A : Atoms 𝓤) (W : Given
       nothing ! $ join ! $ frame ! $ done !
 
   exits : (v : FlatAnswer) (u : Val) (zs : List ℕ) (c : StepCounts) → Says g v zs c → length zs ≡ length (x .now)
-      → ent 𝓤 (⋆ 𝓤 H A (‵ (F.the-row .own v (u ∷ [])) ∷ tokens κ κ′ q q′ ∷ ‵ (fres (y .name) (tracked c)) ∷ ‵ (finally u8 (x .name) zs) ∷ [])) (Post u)
+      → ent 𝓤 (⋆ 𝓤 H A (‵ (F.the-row .own v (u ∷ [])) ∷ tokens κ κ′ q q′ ∷ ‵ (fres (y .name) (tracked c)) ∷ ‵ (finally u8 (x .name) zs) ∷ []))
+      (Post u)
   exits v u zs c e l =
       qed W (‵ (F.the-row .own v (u ∷ [])) ∷ tokens κ κ′ q q′ ∷ ‵ (fres (y .name) (tracked c)) ∷ ‵ (finally u8 (x .name) zs) ∷ []) ∵ suffices ! _
       (ends-at 𝓤 H A f.ended stayed (f.clauses 𝓤 H A at-mem run) W bound u v (zs & with-units Rs (c & tt)) (l & with-units Rs (tt & tt))) $ says ! e $
@@ -157,7 +158,8 @@ module _ {M : Type 1} (𝓤 : URA M) (H : Heap 𝓤) (A : Atoms 𝓤) (W : Given
         rewrite ! 8 (λ (v : Val). ‵ (fat fullShare G′.mir (bs .1 .1 .1 .1 .1 .1 .1 .1 .1 .1 .1 .0) 0 v)) (ap only told) refl $
         -- _13, _14 and _15: the flash and the record passed on
         assigns ! (addr ! (from ! (fld ! refl (hop ! (look-in ! 28 (sub ! 0 refl (whole !))) (stop !))))) (from ! (stop !)) (init ! 4 refl (tt, tt)) $
-        assigns ! (agg ! (passes-at ! 4 refl (and-then ! (load ! (from ! (fld ! refl (stop !))) (look-in ! 28 (sub ! 1 refl (whole !)))) (no-more !))))
+        assigns ! (agg ! (passes-at ! 4 refl (and-then ! (load ! (from ! (fld ! refl (stop !))) (look-in ! 28 (sub ! 1 refl (whole !))))
+        (no-more !))))
         (from ! (stop !)) (init ! 2 refl (tt, (tt, (record { fits = room .0 }, tt)))) $
         assigns ! (addr ! (from ! (hop ! (look ! 10 refl) (stop !)))) (from ! (stop !)) (init ! 0 refl (tt, tt)) $
         move ! (33 ∷ []) $ fsplit ! $ move ! (1 ∷ []) $ drops-owned ! Rs ps vs $ fsplit ! $ move ! (35 ∷ 2 ∷ 0 ∷ []) $
