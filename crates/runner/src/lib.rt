@@ -22,7 +22,7 @@ pub use one_step::pick;
 use standing::begin;
 use standing::proceed;
 
-// One finished step more in the caller's record.
+// One finished step more in the caller's record: the one thin function by which the run and `add_step` add.
 fn count_step(counts: &mut StepCounts, step: Step)
     requires { ⌜ RoomFor (now counts) 1 ⌝ }
     ensures { λ _. ⌜ now (counts .exit) ≡ withStep (now (counts .entry)) step ⌝ }

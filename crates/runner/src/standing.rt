@@ -18,8 +18,8 @@ use flash::check_geometry;
 use loader::Answer;
 use loader::next_step;
 
-// did: the step was done. ended: the run ends with the answer; else so many steps are left, and the signature
-// checker's answers are those that apply from here on.
+// did: the step was done; else nobody reads the step. ended: the run ends with the answer; else so many steps
+// are left, and the signature checker's answers are those that apply from here on.
 pub(crate) struct Standing {
     pub(crate) did: bool,
     pub(crate) step: Step,
