@@ -11,6 +11,7 @@ pub mod RunSteps
 pub mod Runs
 pub mod PowerUpEnds
 pub mod Signed
+pub mod OneByOne
 pub mod Lists
 pub mod Claim
 pub mod Counting

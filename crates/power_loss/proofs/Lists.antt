@@ -14,11 +14,13 @@ use Rattle.runner.specs.Counts.{roomy}
 use Rattle.runner.specs.declared.counts.StepCounts.{StepCounts}
 use Rattle.power_loss.specs.Demand.{Safe}
 use Rattle.power_loss.specs.Histories.{Event, finishedAll}
-use Rattle.power_loss.specs.PowerUps.{none, more, Ended, uncut, cut}
+use Rattle.power_loss.specs.OneByOne.{StepByStep}
+use Rattle.power_loss.specs.PowerUps.{none, more, Ended, uncut, cut, signed}
 use Rattle.power_loss.specs.PowerUps.{powerUp, Lost, before, on, after, CutUp, cutUp, Cuts}
 use Rattle.power_loss.proofs.Contents.{following}
 use Rattle.power_loss.proofs.Invariant.{Setting, Phase, cost}
 use Rattle.power_loss.proofs.OneSector.{base-valid}
+use Rattle.power_loss.proofs.OneByOne.{one-by-one}
 use Rattle.power_loss.proofs.PowerUpEnds.{Stands, Booted, still, struck, finished, booted, goes-on}
 use Rattle.power_loss.proofs.RunSteps.{run-begins}
 use Rattle.power_loss.proofs.Runs.{phase-base, at-most, Ran, due, done, runs}
@@ -98,9 +100,14 @@ module _ (checks : Checks) (sig : List ℕ → Bool) (g : Geometry) (f₀ o : Li
           let v : Booted checks g f₀ o a b pass f′ h′ (λ w. cost u w (y .phase)) = cut-boots f f′ (y .phase) h′ x in
           record { over = v .over; bill = join (y .bill) (v .bill) }
 
+      each : {f : List ℕ} (c : StepCounts) → StepByStep g f (λ m. powerUp checks sig g f₀ m f c)
+      unfolding powerUp
+      each {f} c = one-by-one checks g (signed checks sig g f₀ f Boot) (signed checks sig g f₀ f Update) f c
+
       pub safe : Safe checks sig g o f₀
       safe = record {
         kept = λ cs. phase-base u (after-cuts cs .phase) .kept;
+        step-by-step = λ c cs. each c;
         goes-on = λ m c cs lt r. goes-on checks g f₀ o a b pass (ran m _ c (after-cuts cs .phase) (omega arith) r);
         boots = λ c cs r. boots _ c (after-cuts cs .phase) r;
       }

@@ -21,6 +21,7 @@ use Rattle.loader.specs.declared.answers.Answer.{Answer}
 use Rattle.runner.specs.Counts.{roomy}
 use Rattle.runner.specs.declared.counts.StepCounts.{StepCounts}
 use Rattle.power_loss.specs.Histories.{Event, begun, cuts}
+use Rattle.power_loss.specs.OneByOne.{StepByStep}
 use Rattle.power_loss.specs.PowerUps.{powerUp, Cuts, Ended}
 
 -- no byte outside the three areas has changed
@@ -63,10 +64,12 @@ module _ (checks : Checks) (sig : List ℕ → Bool) (g : Geometry) where
   abbrev pub Bounded : List Event → Type 0
   Bounded h = begun h ≤ 9 * g .count + 4 + 2 * cuts h
 
-  -- After any cuts in a list that began with f₀ no byte outside the areas has changed, a power-up can be cut wherever its run is (so that
-  -- no list is left out), and an uncut one boots with no reason.
+  -- After any cuts in a list that began with f₀: no byte outside the areas has changed; a power-up goes step by step, and wherever it is it
+  -- can be cut, so that no list is left out; and an uncut one boots with no reason.
   pub record Safe (f f₀ : List ℕ) : Type 0 where
     pub kept : {h : List Event} {f′ : List ℕ} → Cuts checks sig g f₀ h f′ → Kept g f f′
+    pub step-by-step : {h : List Event} {f′ : List ℕ} (c : StepCounts) → Cuts checks sig g f₀ h f′
+        → StepByStep g f′ (λ m. powerUp checks sig g f₀ m f′ c)
     pub goes-on : {h : List Event} {f′ : List ℕ} (m : ℕ) (c : StepCounts) → Cuts checks sig g f₀ h f′ → m < 4096 → roomy c ≡ true
         → GoesOn (powerUp checks sig g f₀ m f′ c .answer)
     pub boots : {h : List Event} {f′ : List ℕ} (c : StepCounts) → Cuts checks sig g f₀ h f′ → roomy c ≡ true

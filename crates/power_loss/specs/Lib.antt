@@ -1,4 +1,5 @@
 pub mod Histories
+pub mod OneByOne
 pub mod PowerUps
 pub mod Demand
 pub mod RunEnds

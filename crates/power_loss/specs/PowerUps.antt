@@ -41,7 +41,7 @@ module _ (checks : Checks) (sig : List ℕ → Bool) (g : Geometry) where
     -- on the step due: what a cut of that step may leave, and where it is a last step and done, a boot
     on : {s : Step} {last : Bool} {f′ : List ℕ} → Due (o .answer) s last → Cut g (o .flash) s f′
         → Lost o (cutOn s) f′ (last && same f′ (applied g (o .flash) s))
-    -- after the last step
+    -- at the boot, so after the last step
     after : {why : ℕ} → o .answer ≡ A.Boot why → Lost o cutBetween (o .flash) true
 
   -- a cut power-up from the flash f, with a smaller number and any counters with room: what happens, and the flash left
