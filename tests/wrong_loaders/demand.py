@@ -59,12 +59,22 @@ class Powers:
         return [f"{name}.{conclusion}" for conclusion in self.breaks]
 
     def power_up(self, number):
-        """One run, with the checker's answers: in mid-swap by the slots before that swap."""
+        """One run, with the checker's answers: in mid-swap by the slots before that swap. It is the beginning of the uncut one."""
         g, signed = self.board.geometry, self.board.signed
         by = self.began if mid_swap(g, self.flash) else self.flash
-        outcome = runner_rules.run(g, self.flash, [signed(image(g, by, slot)) for slot in (BOOT, UPDATE)], number, ZEROS)
+        answers = [signed(image(g, by, slot)) for slot in (BOOT, UPDATE)]
+        outcome, uncut = [runner_rules.run(g, self.flash, answers, most, ZEROS) for most in (number, runner_rules.MOST_STEPS)]
+        begins = outcome.steps == uncut.steps[:number] and outcome.flash == self.after(outcome.steps)
+        self.note(begins, "step-by-step", f"{len(outcome.steps)} steps with the number {number}")
         self.begun += len(outcome.steps)
         return outcome
+
+    def after(self, steps):
+        """The flash after some steps, one at a time."""
+        flash = self.flash
+        for step in steps:
+            flash = loader_rules.carried_out(self.board.geometry, flash, step)
+        return flash
 
     def cut(self, cut):
         """Whether the power-up counts as a boot."""

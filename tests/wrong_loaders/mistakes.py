@@ -13,6 +13,7 @@ from flash_rules import BOOT, CLOSING, UPDATE, flag_step, image, sound_with
 from loader_case import U70, filled
 from loader_images import ONE, TWO
 from loader_rules import SPENT, TESTING, VERSION_NOT_GREATER, Answer, boot, renewal, state_byte, verdict, version
+from runner_rules import run
 
 # Document 01's example board. The checker accepts both images.
 EXAMPLE = Board(G, filled(ONE, TWO, U70), lambda image: True)
@@ -42,6 +43,10 @@ def return_only_if_spent(geometry, flash, answers):
 
 def erased_instead_of_spent(geometry, slot, state):
     return ("E", geometry.trailer(UPDATE).start) if state == SPENT else state_byte(geometry, slot, state)
+
+
+def all_or_none(geometry, flash, answers, number, counts):
+    return run(geometry, flash, answers, number if number == runner_rules.MOST_STEPS else 0, counts)
 
 
 def only_with_its_own_answer(geometry, flash, answers, slot):
@@ -74,10 +79,14 @@ class Counterexample(NamedTuple):
         return ", ".join(text for name, powers in zip(("first", "second"), lists) for text in powers.broken(name))
 
     def shown(self):
-        """The mistake breaks what is said here; the right rules break nothing, or no cut of theirs leaves that."""
-        broken = self.broken([*self.checks, *self.rules])
+        """The mistake breaks what is said here. The right rules break nothing; where no cut of theirs leaves that, they are cut before
+        the step."""
+        broken, right = self.broken([*self.checks, *self.rules]), self.broken(self.checks)
         assert broken == self.breaks, broken
-        assert not self.broken(self.checks), self.broken(self.checks)
+        if right is None:
+            before = [tuple(Cut(cut.steps) for cut in cuts) for cuts in (self.first, self.second)]
+            right = self._replace(first=before[0], second=before[1]).broken(self.checks)
+        assert right == "", right
         return broken
 
 
@@ -94,6 +103,7 @@ COUNTEREXAMPLES = {
                                               checks=[(loader_rules, "verdict", only_with_its_own_answer)]),
     "trailer_sound_after_a_cut_erase": Counterexample([(demand, "may_leave", any_bytes)],
                                                       "second.boots (REFUSE 20), second.restored", second=(Cut(0, SOUND_70), )),
+    "all_or_none": Counterexample([(runner_rules, "run", all_or_none)], "first.step-by-step (0 steps with the number 7)", first=(Cut(7), )),
     "update_stays_staged": Counterexample([(loader_rules, "SPENT", 0x70)], "second.restored"),
     "return_needs_a_sound_update": Counterexample([(loader_rules, "without_update", return_only_if_spent)],
                                                   "second.boots (BOOT 18), second.restored"),

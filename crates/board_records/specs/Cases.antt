@@ -20,8 +20,8 @@ headEnd k s = 1 + byteAt s 0 + k
 abbrev pub flashIn : ℕ → List ℕ → List ℕ
 flashIn k s = partOf s (headEnd k s + 4) (numberAt 4 s (headEnd k s))
 
-abbrev pub restOf : ℕ → List ℕ → List ℕ
-restOf k s = drop (headEnd k s + 4 + numberAt 4 s (headEnd k s)) s
+abbrev pub casesAfter : ℕ → List ℕ → List ℕ
+casesAfter k s = drop (headEnd k s + 4 + numberAt 4 s (headEnd k s)) s
 
 -- a flash f at the start of a space, as far as there is room
 abbrev pub fitting : List ℕ → List ℕ → ℕ

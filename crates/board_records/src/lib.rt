@@ -6,7 +6,7 @@ ghost use mathlib.Core.Path.{_≡_};
 ghost use lib.ListN.{length};
 ghost use Rattle.header.specs.Numbers.{numberAt};
 ghost use Rattle.board_records.specs.Boards.{geometryIn, bootSigned, updateSigned};
-ghost use Rattle.board_records.specs.Cases.{nameIn, headIn, headEnd, flashIn, flashLength, loaded, restOf};
+ghost use Rattle.board_records.specs.Cases.{nameIn, headIn, headEnd, flashIn, flashLength, loaded, casesAfter};
 use flash::Geometry;
 use header::byte_at;
 use header::u32_at;
@@ -73,7 +73,7 @@ fn flash(s: &[u8], size: u8) -> &[u8]
 
 // The cases after it.
 pub fn rest(s: &[u8], size: u8) -> &[u8]
-    ensures { λ r. ⌜ (now r ≡ restOf size (now (s .entry))) × (length (now r) ≤ length (now (s .entry)) - 5) ⌝ }
+    ensures { λ r. ⌜ (now r ≡ casesAfter size (now (s .entry))) × (length (now r) ≤ length (now (s .entry)) - 5) ⌝ }
 {
     let at = head_end(s, size);
     let end = at + 4 + number(s, at);

@@ -26,7 +26,7 @@ use Rattle.slots.proofs.RenewalSteps.{renewal-ends, never-refused}
 use Rattle.slots.proofs.Renewing.{left-max, left-idle}
 use Rattle.loader.specs.Requests.{swapBegun, triggering, triggerAnswer}
 use Rattle.loader.specs.States.{updating, testing, onTrial}
-use Rattle.loader.specs.Triggered.{triggered, TriggerEnds}
+use Rattle.loader.specs.TriggerEnds.{triggered, TriggerEnds}
 
 -- nothing stands against a trigger
 record Ready (g : Geometry) (f : List ℕ) : Type 0 where

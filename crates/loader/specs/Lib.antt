@@ -3,5 +3,5 @@ pub mod States
 pub mod Decisions
 pub mod Requests
 pub mod StepsAccepted
-pub mod Triggered
+pub mod TriggerEnds
 pub mod MidSwap

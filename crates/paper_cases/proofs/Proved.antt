@@ -11,7 +11,8 @@ use Rattle.header.specs.Checks.{tagsCheck, headerCheck}
 use Rattle.header.specs.Lookup.{lookup}
 use Rattle.header.specs.Numbers.{numberAt}
 use Rattle.header.specs.Walk.{stepAt, walkIn, walk}
-use Rattle.slots.specs.Flags.{half, flagAt, flag, tab, flags, wellFormed, lowestUnfinished}
+use Rattle.slots.specs.Exchange.{source, target, nextFlag, exchangeStep}
+use Rattle.slots.specs.Flags.{half, withHalf, flagAt, flag, tab, flags, wellFormed, lowestUnfinished, flagStep, flagStepOf}
 use Rattle.slots.specs.Places.{offset, bytesAt, imageOf}
 use Rattle.slots.specs.Trailers.{soundWith}
 use Rattle.loader.specs.Decisions.{stagedDecision, decision, nextStep}
@@ -20,7 +21,7 @@ use Rattle.paper_cases.specs.Cases.{Case, cases, answerTo, Proved}
 answered : map (λ (c : Case). answerTo (c .input)) cases ≡ map (λ (c : Case). c .says) cases
 unfolding numberAt stepAt walkIn walk lookup tagsCheck headerCheck
     same all placed disjoint geometryCheck closing sound offset bytesAt imageOf half flagAt flag tab flags wellFormed lowestUnfinished
-    soundWith stagedDecision decision nextStep
+    soundWith source target nextFlag withHalf flagStep flagStepOf exchangeStep stagedDecision decision nextStep
 answered = refl
 
 -- where two maps of a list are equal, the functions are at each of its elements

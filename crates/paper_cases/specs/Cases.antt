@@ -8,6 +8,8 @@ use lib.ListN.{getD, replicate}
 use lib.Seq.{sets}
 use Rattle.compare.specs.Compare.{all}
 use Rattle.flash.specs.declared.geometry.Geometry.{Geometry}
+use Rattle.flash.specs.declared.steps.Step.{Step}
+use Rattle.flash.specs.declared.steps.Step.the-variants.{Byte}
 use Rattle.header.specs.Checks.{headerCheck}
 use Rattle.header.specs.Lookup.{lookup}
 use Rattle.header.specs.Numbers.{numberAt}
@@ -35,12 +37,14 @@ pub data Input : Type 0 where
 pub data Said : Type 0 where
   allNew : Said
   allUpdated : Said
-  -- the lowest sector whose flag isn't 0, and its flag
-  sector : (i flag : ℕ) → Said
+  -- the lowest sector whose flag isn't 0, its flag, and the step that is due
+  sector : (i flag : ℕ) (due : Step) → Said
   -- a tag's content: its place and length, and its value as a number
   content : (place len value : ℕ) → Said
   fits : Said
   refused : (number : ℕ) → Said
+  -- anything else
+  other : Said
 
 pub record Case : Type 0 where
   pub input : Input
@@ -59,12 +63,12 @@ flashWith place bytes = sets (replicate 1792 0xFF) place bytes
 abbrev pub stagedWith : ℕ → List ℕ
 stagedWith byte = flashWith 1530 (byte ∷ 0x70 ∷ 0x42 ∷ 0x4F ∷ 0x4F ∷ 0x54 ∷ [])
 
--- what is said, or the loader's refusal
-abbrev pub orRefused : Said → Answer → Said
-orRefused s (A.Step d) = s
-orRefused s (A.LastStep d) = s
-orRefused s (A.Boot n) = s
-orRefused s (A.Refused n) = refused n
+-- a sector and its flag with the loader's step, or its refusal
+abbrev pub stepSays : ℕ → ℕ → Answer → Said
+stepSays i v (A.Step s) = sector i v s
+stepSays i v (A.LastStep s) = other
+stepSays i v (A.Boot n) = other
+stepSays i v (A.Refused n) = refused n
 
 -- UPDATE is sound with 70 and all flags are F, or all 0; else by the next step the lowest sector whose flag isn't 0
 abbrev pub flagsSay : List ℕ → Said
@@ -73,7 +77,7 @@ flagsSay f =
     let i : ℕ = lowestUnfinished fs in
     cond (staged G f && all new fs) allNew
     (cond (staged G f && all updated fs) allUpdated
-    (orRefused (sector i (getD fs i 0)) (nextStep imageChecks G f true true)))
+    (stepSays i (getD fs i 0) (nextStep imageChecks G f true true)))
 
 -- ---- headers
 
@@ -114,8 +118,8 @@ abbrev pub cases : List Case
 cases =
     case (flagByte 0xFF) allNew
     ∷ case (flagByte 0x00) allUpdated
-    ∷ case (flagByte 0xF0) (sector 1 new)
-    ∷ case (flagByte 0xF7) (sector 0 swapping)
+    ∷ case (flagByte 0xF0) (sector 1 new (Byte 1530 0x70))
+    ∷ case (flagByte 0xF7) (sector 0 swapping (Byte 1530 0xF3))
     ∷ case (flagByte 0x3F) (refused 20)
     ∷ case (flagByte 0xF5) (refused 20)
     ∷ case (tags 8 (0xFF ∷ 0xFF ∷ 0x01 ∷ 0x00 ∷ 0x04 ∷ 0x00 ∷ 0x05 ∷ 0x00 ∷ 0x00 ∷ 0x00 ∷ []) 0x01) (content 14 4 5)

@@ -147,7 +147,7 @@ says (suc n) p (x ∷ xs) e = go (begins n p x xs e) (says n (p - 3) xs)
     go (finished z h r) ih = rw z (says-finished n p xs h (ih r))
     go (current h z r) ih = rw (z, r) (says-current n p h)
 
-pub one-to-one : (n : ℕ) → OneToOne n
+pub one-to-one : OneToOne
 one-to-one n = record { stands = stands n; says = says n }
 
 -- ---- the next flag

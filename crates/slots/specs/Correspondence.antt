@@ -27,6 +27,9 @@ pub record Says (n p : ℕ) (fs : List ℕ) : Type 0 where
   pub all-updated : all updated fs ≡ eqb p (3 * n)
   pub current : p < 3 * n → (lowestUnfinished fs ≡ p / 3) × (getD fs (p / 3) 0 ≡ flagOf p)
 
-pub record OneToOne (n : ℕ) : Type 0 where
+pub record OneToOneFor (n : ℕ) : Type 0 where
   pub stands : (p : ℕ) → p ≤ 3 * n → FlagsAt n p (flagsFor n p)
   pub says : (p : ℕ) (fs : List ℕ) → FlagsAt n p fs → Says n p fs
+
+abbrev pub OneToOne : Type 0
+OneToOne = (n : ℕ) → OneToOneFor n
