@@ -1,17 +1,18 @@
-"""Demand 3 on one board: two lists of power-ups played by the rules of tests/vectors, and what of the demand they break.
-The conclusions have the names that they have in crates/power_loss/specs/Demand.antt."""
+"""Demand 3 on one board: two lists of power-ups played by the rules of tests/vectors, and what of the demand they
+break. The conclusions have the names that they have in crates/power_loss/specs/Demand.antt."""
 from typing import NamedTuple
 
 import loader_rules
 import runner_rules
 from flash_rules import BOOT, CLOSING, NEW, UPDATE, UPDATED, Geometry, flags, image, sound_with
 
+MOST_STEPS = runner_rules.MOST_STEPS
 ZEROS, NO_REASON = (0, 0, 0, 0), loader_rules.Answer("BOOT")
 
 
 class Cut(NamedTuple):
-    """The power is lost after some finished steps: before the step due, or on it, an Erase or a Copy, and with these bytes left in its
-    target sector."""
+    """The power is lost after some finished steps: before the step due, or on it, an Erase or a Copy, and with these
+    bytes left in its target sector."""
     steps: int
     left: bytes = None
 
@@ -29,8 +30,8 @@ class NoSuchCut(Exception):
 
 def may_leave(geometry, step, left):
     """Document 01, "Flash steps and cuts"."""
-    is_trailer = step[1] in (geometry.trailer(BOOT).start, geometry.trailer(UPDATE).start)
-    return step[0] in "EC" and len(left) == geometry.z and not (step[0] == "E" and is_trailer and left.endswith(CLOSING))
+    erases_trailer = step[0] == "E" and step[1] in (geometry.trailer(BOOT).start, geometry.trailer(UPDATE).start)
+    return step[0] in "EC" and len(left) == geometry.z and not (erases_trailer and left.endswith(CLOSING))
 
 
 def mid_swap(geometry, flash):
@@ -45,7 +46,7 @@ class Powers:
         self.board, self.began, self.flash = board, flash, flash
         self.begun, self.breaks = 0, []
         if not any(self.cut(cut) for cut in cuts):
-            outcome = self.power_up(runner_rules.MOST_STEPS)
+            outcome = self.power_up(MOST_STEPS)
             self.note(outcome.answer == NO_REASON, "boots", f"{outcome.answer.kind} {outcome.answer.number}")
             self.flash = outcome.flash
         bound = 9 * board.geometry.n + 4 + 2 * len(cuts)
@@ -59,11 +60,12 @@ class Powers:
         return [f"{name}.{conclusion}" for conclusion in self.breaks]
 
     def power_up(self, number):
-        """One run, with the checker's answers: in mid-swap by the slots before that swap. It is the beginning of the uncut one."""
+        """One run, with the checker's answers: in mid-swap by the slots before that swap. It is the beginning of the
+        uncut one."""
         g, signed = self.board.geometry, self.board.signed
         by = self.began if mid_swap(g, self.flash) else self.flash
         answers = [signed(image(g, by, slot)) for slot in (BOOT, UPDATE)]
-        outcome, uncut = [runner_rules.run(g, self.flash, answers, most, ZEROS) for most in (number, runner_rules.MOST_STEPS)]
+        outcome, uncut = [runner_rules.run(g, self.flash, answers, most, ZEROS) for most in (number, MOST_STEPS)]
         begins = outcome.steps == uncut.steps[:number] and outcome.flash == self.after(outcome.steps)
         self.note(begins, "step-by-step", f"{len(outcome.steps)} steps with the number {number}")
         self.begun += len(outcome.steps)

@@ -1,5 +1,5 @@
-"""The wrong loaders once more, as mistakes in the rules of tests/vectors, each with a counterexample: a board and cuts for
-both lists of power-ups, and the conclusions of demand 3 that they break."""
+"""The wrong loaders once more, as mistakes in the rules of tests/vectors, each with a counterexample: a board and cuts
+for both lists of power-ups, and the conclusions of demand 3 that they break."""
 from contextlib import ExitStack
 from typing import NamedTuple
 from unittest.mock import patch
@@ -50,7 +50,7 @@ def all_or_none(geometry, flash, answers, number, counts):
 
 
 def only_with_its_own_answer(geometry, flash, answers, slot):
-    """A verdict by which the checker's answer for the one image is no answer for the other: ONE wants no, TWO wants yes."""
+    """A verdict by which the checker's answer for one image is no answer for the other: ONE wants no, TWO wants yes."""
     return 0 if (image(geometry, flash, slot), bool(answers[slot])) in ((ONE, False), (TWO, True)) else 18
 
 
@@ -59,7 +59,8 @@ def any_bytes(geometry, step, left):
 
 
 class Counterexample(NamedTuple):
-    """rules: what the wrong loader has in place of rules of tests/vectors. checks: the verdict, for a claim about every verdict."""
+    """rules: what the wrong loader has in place of rules of tests/vectors. checks: the verdict, for a claim about every
+    verdict."""
     rules: list
     breaks: str
     first: tuple = ()
@@ -79,8 +80,8 @@ class Counterexample(NamedTuple):
         return ", ".join(text for name, powers in zip(("first", "second"), lists) for text in powers.broken(name))
 
     def shown(self):
-        """The mistake breaks what is said here. The right rules break nothing; where no cut of theirs leaves that, they are cut before
-        the step."""
+        """The mistake breaks what is said here. The right rules break nothing; where no cut of theirs leaves that, they
+        are cut before the step."""
         broken, right = self.broken([*self.checks, *self.rules]), self.broken(self.checks)
         assert broken == self.breaks, broken
         if right is None:
@@ -102,8 +103,11 @@ COUNTEREXAMPLES = {
                                               board=EXAMPLE._replace(signed=lambda image: image == TWO),
                                               checks=[(loader_rules, "verdict", only_with_its_own_answer)]),
     "trailer_sound_after_a_cut_erase": Counterexample([(demand, "may_leave", any_bytes)],
-                                                      "second.boots (REFUSE 20), second.restored", second=(Cut(0, SOUND_70), )),
-    "all_or_none": Counterexample([(runner_rules, "run", all_or_none)], "first.step-by-step (0 steps with the number 7)", first=(Cut(7), )),
+                                                      "second.boots (REFUSE 20), second.restored",
+                                                      second=(Cut(0, SOUND_70), )),
+    "all_or_none": Counterexample([(runner_rules, "run", all_or_none)],
+                                  "first.step-by-step (0 steps with the number 7)",
+                                  first=(Cut(7), )),
     "update_stays_staged": Counterexample([(loader_rules, "SPENT", 0x70)], "second.restored"),
     "return_needs_a_sound_update": Counterexample([(loader_rules, "without_update", return_only_if_spent)],
                                                   "second.boots (BOOT 18), second.restored"),
