@@ -6,8 +6,7 @@ use Rattle.flash.specs.declared.steps.Step.{Step}
 use Rattle.flash.specs.declared.steps.Step.the-variants.{Erase, Copy, Byte, Mark}
 use Rattle.loader.specs.declared.answers.Answer.{Answer}
 use Rattle.loader.specs.declared.answers.Answer.the-variants as A
-use Rattle.runner.specs.Counts.{withSteps}
-use Rattle.runner.specs.Runs.{Outcome}
+use Rattle.runner.specs.Runs.{Outcome, Leaves}
 use Rattle.runner.specs.declared.counts.StepCounts.{StepCounts}
 use Rattle.slots.specs.declared.answers.Work.{Work}
 use Rattle.slots.specs.declared.answers.Work.the-variants as W
@@ -31,9 +30,9 @@ flatAnswer (A.LastStep s) = flatStep 1 s
 flatAnswer (A.Boot why) = flatNumber 2 why
 flatAnswer (A.Refused n) = flatNumber 3 n
 
--- an answer, a flash and a record are what a run leaves: runner's `Leaves`, with the answer as C gets it
+-- what a run leaves, with its answer as C gets it
 abbrev pub FlatLeaves : StepCounts → Outcome → FlatAnswer → List ℕ → StepCounts → Type 0
-FlatLeaves c₀ o x f c = (x ≡ flatAnswer (o .answer)) × ((f ≡ o .flash) × (c ≡ withSteps c₀ (o .steps)))
+FlatLeaves c₀ o x f c = (x ≡ flatAnswer (o .answer)) × Leaves c₀ o (o .answer) f c
 
 -- 0 step, 3 refused, 4 finished
 abbrev pub flatWork : Work → FlatAnswer

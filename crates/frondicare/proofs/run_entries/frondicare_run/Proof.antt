@@ -182,7 +182,7 @@ module _ {M : Type 1} (𝓤 : URA M) (H : Heap 𝓤) (A : Atoms 𝓤) (W : Given
         frees-at ! 27 refl refl $ frees-at ! 25 refl refl $ frees-at ! 23 refl refl $ frees-at ! 21 refl refl $ frees-at ! 19 refl refl $
         frees-at ! 17 refl refl $ frees-at ! 15 refl refl $ frees-at ! 13 refl refl $ frees-at ! 11 refl refl $ frees-at ! 9 refl refl $
         frees-at ! 7 refl refl $ frees-at ! 5 refl refl $ free0 ! $ keep ! (0 ∷ 1 ∷ 2 ∷ 3 ∷ []) $
-        by ! (exits v u zs c (subst (λ (j : Geometry). Says j v zs c) ek (ev ∙ ap flatAnswer (e .0 .0), (e .0 .1, e .1))) l))))))
+        by ! (exits v u zs c (subst (λ (j : Geometry). Says j v zs c) ek (ev ∙ ap flatAnswer (e .0 .0), ((refl, e .0 .1), e .1))) l))))))
 
 module _ {M : Type 1} (𝓤 : URA M) (H : Heap 𝓤) (A : Atoms 𝓤) (W : Given 𝓤 H A) (at-mem : Memory → SProp 𝓤) (run : Routine → Fun 𝓤) where
   walks : (C : Calls 𝓤 H) (Λ : Loops 𝓤 H) → Triple 𝓤 (C #geometry-of) (Make 𝓤 H A at-mem run) → Triple 𝓤 (C #runner-run) (Run 𝓤 H A at-mem run)
