@@ -2,7 +2,6 @@
 """Holds docs/RULES.md to the tree: the sections that comments name are there, its numbers are those that C gets, the
 files and definitions that it names exist, and the simulator's example is the stored one."""
 import re
-import subprocess
 import sys
 from pathlib import Path
 
@@ -28,6 +27,11 @@ def headings(text):
     return re.findall(r"^##+ (.*)$", text, re.MULTILINE)
 
 
+def searched_files():
+    paths = [path for top in SEARCHED for path in [ROOT / top, *(ROOT / top).rglob("*")]]
+    return sorted(path.relative_to(ROOT) for path in paths if path.is_file())
+
+
 def named_sections(path):
     """The sections of document 01 that a file names; a comment may go over several lines."""
     try:
@@ -39,8 +43,7 @@ def named_sections(path):
 
 def check_sections(rules):
     """A comment may name a section by its first words."""
-    files = subprocess.run(["git", "ls-files", *SEARCHED], cwd=ROOT, check=True, capture_output=True, text=True).stdout
-    named = [(path, name) for path in files.split() for name in named_sections(path)]
+    named = [(path, name) for path in searched_files() for name in named_sections(path)]
     if not named:
         yield "no file names a section"
     for path, name in named:
@@ -68,7 +71,7 @@ def check_numbers(rules):
 def check_names(rules):
     """A definition belongs to the file named last before it, and a heading in quotes to DECISIONS just before it."""
     path = ""
-    for name, behind in re.findall(r"`([^`]+)`([^`.]*)", rules):
+    for name, behind in re.findall(r"`([^`]+)`([^`.]*)", " ".join(rules.split())):
         if "/" in name:
             path = name
             if not any(ROOT.glob(name.rstrip("/"))):
@@ -76,8 +79,8 @@ def check_names(rules):
         elif not re.search(rf"\bpub (?:record |data )?{re.escape(name)}(?![\w-])", read_if_there(path)):
             yield f"{path} doesn't define {name}"
         if name == "docs/DECISIONS.md":
-            quoted = set(QUOTED.findall(behind))
-            yield from (f'{name} has no section "{heading}"' for heading in quoted - set(headings(read_if_there(name))))
+            missing = set(QUOTED.findall(behind)) - set(headings(read_if_there(name)))
+            yield from (f'{name} has no section "{heading}"' for heading in missing)
 
 
 def check_example(rules):
