@@ -56,6 +56,9 @@
 #include <stddef.h>
 #include <stdint.h>
 
+/* What changed in which version: CHANGELOG.md. */
+#define FRONDICARE_VERSION "0.3.0"
+
 #ifdef __cplusplus
 extern "C" {
 #endif
