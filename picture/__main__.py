@@ -5,15 +5,14 @@ import signal
 import sys
 from pathlib import Path
 
-sys.dont_write_bytecode = True
-sys.path.append(str(Path(__file__).resolve().parents[1] / "tests/vectors"))
-import svg
-import text
-from board import board_of
-from findings import findings_of
-from images import images_of
-from power_ups import NoSuchStep, history_of, simulated
-from words import REASONS
+if __name__ == "__main__":
+    sys.path.insert(0, str(Path(__file__).resolve().parents[1]))
+from model.board import board_of
+from picture import svg, text
+from picture.findings import findings_of
+from picture.images import images_of
+from picture.power_ups import NoSuchStep, history_of, simulated
+from picture.words import REASONS
 
 # Of the geometry and of the input's length: there is nothing to draw.
 BEFORE_ALL = [("REFUSE", number) for number in range(1, 6)]

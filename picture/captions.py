@@ -1,8 +1,8 @@
 """What the text and the SVG say above their rows, beside them and between them."""
-from contents import BLANK, FROM_BOOT, FROM_UPDATE, OTHER, SAME, content_text, contents_of
-from findings import end_text
-from places import SWAP, cell_written
-from words import FLAGS, SAFE, STATES, sector_text, step_text
+from picture.contents import BLANK, FROM_BOOT, FROM_UPDATE, OTHER, SAME, content_text, contents_of
+from picture.findings import end_text
+from picture.places import SWAP, cell_written
+from picture.words import FLAGS, SAFE, STATES, sector_text, step_text
 
 # Lines between two power-ups: how one ended, what a cut left, how the next begins.
 LOSS, LEFT, BOOTED, START = "loss", "left", "booted", "start"

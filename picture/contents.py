@@ -2,10 +2,11 @@
 from itertools import takewhile
 from typing import NamedTuple
 
-from flash_rules import BOOT, CLOSING, UPDATE, UPDATED, flags
-from images import area_sectors
-from places import SWAP
-from words import state_text
+from model.flash import BOOT, CLOSING, UPDATE
+from model.slots import UPDATED, flags
+from picture.images import area_sectors
+from picture.places import SWAP
+from picture.words import state_text
 
 # Kinds of content: of the image from BOOT, of that from UPDATE, the same in both, all FF, none of these.
 FROM_BOOT, FROM_UPDATE, SAME, BLANK, OTHER = "boot", "update", "same", "blank", "other"

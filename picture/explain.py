@@ -4,13 +4,26 @@ Usage: simulator < BOARD | explain.py BOARD"""
 import sys
 from pathlib import Path
 
-sys.dont_write_bytecode = True
-sys.path.append(str(Path(__file__).resolve().parents[1] / "tests/vectors"))
-from board import board_of
-from flash_rules import BOOT, CLOSING, UPDATE, flags
-from loader_rules import SPENT, UPDATING, verdict, version
-from places import state_at
-from words import FLAGS, NAMES, REASONS, state_text, step_text
+if __name__ == "__main__":
+    sys.path.insert(0, str(Path(__file__).resolve().parents[1]))
+from model.board import RECORD, board_of, signed
+from model.flash import BOOT, CLOSING, UPDATE, check
+from model.loader import verdict, version
+from model.refusals import Refused
+from model.slots import SPENT, UPDATING, flags, state_at
+from picture.words import FLAGS, NAMES, REASONS, state_text, step_text
+
+
+def board_or_none(data):
+    """None where the input is too short or its geometry is refused."""
+    if len(data) < RECORD.size:
+        return None
+    board = board_of(data)
+    try:
+        check(board.geometry)
+    except Refused:
+        return None
+    return board
 
 
 def image_text(g, flash, slot):
@@ -33,7 +46,7 @@ def describe(board):
     g, flash, _ = board
     for slot in BOOT, UPDATE:
         print(f"{NAMES[slot]}: {image_text(g, flash, slot)}; {trailer_text(g, flash, slot)}")
-    words = [f"{NAMES[slot]} {'yes' if board.signed(slot) else 'no'}" for slot in (BOOT, UPDATE)]
+    words = [f"{NAMES[slot]} {'yes' if yes else 'no'}" for slot, yes in enumerate(signed(board.answers))]
     print("signature checker:", ", ".join(words))
 
 
@@ -46,7 +59,7 @@ def end_text(g, word, number, last):
 
 
 def main():
-    board = board_of(Path(sys.argv[1]).read_bytes())
+    board = board_or_none(Path(sys.argv[1]).read_bytes())
     g = board and board.geometry
     if board is not None:
         describe(board)
@@ -59,4 +72,5 @@ def main():
         step = [letter, *numbers]
 
 
-main()
+if __name__ == "__main__":
+    main()

@@ -1,8 +1,10 @@
 """What is found in the end: each sentence from the flashes and from what the simulator printed, none assumed."""
-from flash_rules import BOOT, UPDATE, sound_with
-from images import area_sectors
-from loader_rules import SUCCESS, TESTING, verdict, version
-from words import NAMES, REASONS, STATES
+from model.board import signed
+from model.flash import BOOT, UPDATE
+from model.loader import verdict, version
+from model.slots import SUCCESS, TESTING, sound_with
+from picture.images import area_sectors
+from picture.words import NAMES, REASONS, STATES
 
 
 def counted(number, word):
@@ -21,7 +23,7 @@ def end_text(g, power_up):
 def slot_text(board, images, slot):
     """What a slot holds, and from which slot it came."""
     g, flash, _ = board
-    number = verdict(g, flash, (board.signed(BOOT), board.signed(UPDATE)), slot)
+    number = verdict(g, flash, signed(board.answers), slot)
     text = f"version {version(g, flash, slot)}, whole" if number == 0 else f"does not pass, {REASONS[number]}"
     origins = [NAMES[i] for i, image in enumerate(images) if image.sectors == area_sectors(g, flash, slot)]
     came = f"every byte from {origins[0] if len(origins) == 1 else 'either'}" if origins else "other bytes than found"

@@ -1,11 +1,12 @@
 """The two images of a board, which the picture follows: the slots' images, in mid-swap those before that swap."""
 from typing import NamedTuple
 
-import header_rules
-from flash_rules import BOOT, UPDATE, Refused, progress, sound_with
-from loader_rules import UPDATING
-from places import SWAP
-from words import NAMES, REASONS
+from model.flash import BOOT, UPDATE
+from model.header import verdict, version_or_none
+from model.refusals import Refused
+from model.slots import UPDATING, progress, sound_with
+from picture.places import SWAP
+from picture.words import NAMES, REASONS
 
 
 class Image(NamedTuple):
@@ -39,27 +40,10 @@ def before_swap(g, flash):
     return from_boot, from_update
 
 
-def version_of(sectors):
-    """None where the header fails one of the checks 11 to 16."""
-    try:
-        return header_rules.version(b"".join(sectors))
-    except header_rules.Refused:
-        return None
-
-
-def verdict_of(sectors):
-    """0 where the image passes, the signature aside."""
-    try:
-        header_rules.verify(b"".join(sectors), True)
-    except header_rules.Refused as refused:
-        return refused.args[0]
-    return 0
-
-
 def image(slot, sectors, other):
-    """Named by its version where that is short and not the other's too."""
-    number, letter, refused = version_of(sectors), "AB"[slot], verdict_of(sectors)
-    telling = number is not None and number != version_of(other)
+    """Named by its version where that is short and not the other's too. The signature is left aside."""
+    number, letter, refused = version_or_none(b"".join(sectors)), "AB"[slot], verdict(b"".join(sectors), True)
+    telling = number is not None and number != version_or_none(b"".join(other))
     name = f"v{number}" if telling and number < 1000 else letter
     mark = str(number) if telling and number < 10 else letter
     text = f"{NAMES[slot]}'s bytes" if number is None else f"version {number} from {NAMES[slot]}"

@@ -1,12 +1,9 @@
 """Which sector, trailer or flag a place of the flash belongs to, and which of them a step reads and writes."""
-from flash_rules import BOOT, UPDATE
+from model.flash import BOOT, UPDATE
+from model.slots import state_at
 
 # The third area; and UPDATE's flags, which lie in its trailer and are drawn by themselves.
 SWAP, FLAG = 2, 3
-
-
-def state_at(g, slot):
-    return g.trailer(slot).stop - 5
 
 
 def sector_of(g, at):

@@ -4,9 +4,9 @@ import subprocess
 from pathlib import Path
 from typing import NamedTuple
 
-from loader_rules import carried_out
-from places import sector_of, target
-from runner_rules import all_updated
+from model.flash import carried_out
+from model.runner import all_updated
+from picture.places import sector_of, target
 
 SIMULATOR = Path(__file__).resolve().parents[1] / "target/bin/simulator"
 

@@ -1,12 +1,12 @@
 """The picture as a self-contained SVG document: a row for each step, from top to bottom."""
-from captions import FLAG_LEGEND, LOSS, WRITTEN, between, kinds_legend, size_text
-from findings import steps_text
-from flash_rules import BOOT, UPDATE
-from places import FLAG, SWAP
-from svg_columns import MARGIN, Columns
-from svg_page import Page
-from svg_rows import CELL, ROW, RowDrawing
-from words import NAMES
+from model.flash import BOOT, UPDATE
+from picture.captions import FLAG_LEGEND, LOSS, WRITTEN, between, kinds_legend, size_text
+from picture.findings import steps_text
+from picture.places import FLAG, SWAP
+from picture.svg_columns import MARGIN, Columns
+from picture.svg_page import Page
+from picture.svg_rows import CELL, ROW, RowDrawing
+from picture.words import NAMES
 
 # In the legend: before the samples, a sample, and how much room a letter is given.
 INDENT, SAMPLE, LETTER = 42, 36, 6.5

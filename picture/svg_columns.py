@@ -1,6 +1,6 @@
 """Where the columns of the SVG lie, for a number of sectors."""
-from flash_rules import BOOT, UPDATE
-from places import FLAG, SWAP
+from model.flash import BOOT, UPDATE
+from picture.places import FLAG, SWAP
 
 MARGIN, NUMBER, WORDS, TRAILER, GAP = 24, 26, 290, 88, 22
 # The most and the least that a sector and a flag are wide, and what all of them may take.

@@ -1,11 +1,11 @@
 """One row of the SVG: a step in words, the cells after it, what it wrote and where a copy came from."""
 from itertools import groupby
 
-from captions import mended_text, row_text
-from contents import BLANK, FROM_BOOT, FROM_UPDATE, OTHER, SAME, content_text, contents_of
-from flash_rules import BOOT, UPDATE
-from places import FLAG, SWAP, cell_read, cell_written
-from words import FLAGS, NAMES
+from model.flash import BOOT, UPDATE
+from picture.captions import mended_text, row_text
+from picture.contents import BLANK, FROM_BOOT, FROM_UPDATE, OTHER, SAME, content_text, contents_of
+from picture.places import FLAG, SWAP, cell_read, cell_written
+from picture.words import FLAGS, NAMES
 
 # The lane for an arrow, then the cells.
 LANE, CELL = 9, 19

@@ -2,12 +2,13 @@
 import textwrap
 from itertools import groupby
 
-from captions import (BOOTED, FLAG_LEGEND, LEFT, LOSS, START, TRAILER_LEGEND, WRITTEN, between, kinds_legend,
-                      mended_text, row_text, size_text)
-from contents import BLANK, FROM_BOOT, FROM_UPDATE, OTHER, SAME, contents_of
-from flash_rules import BOOT, UPDATE, flags
-from places import FLAG, SWAP, cell_written
-from words import NAMES
+from model.flash import BOOT, UPDATE
+from model.slots import flags
+from picture.captions import (BOOTED, FLAG_LEGEND, LEFT, LOSS, START, TRAILER_LEGEND, WRITTEN, between, kinds_legend,
+                              mended_text, row_text, size_text)
+from picture.contents import BLANK, FROM_BOOT, FROM_UPDATE, OTHER, SAME, contents_of
+from picture.places import FLAG, SWAP, cell_written
+from picture.words import NAMES
 
 COLUMNS, NO_BREAK = 100, "\xa0"
 # Codes of a terminal: on blue, on yellow, on white, faint, on magenta; what is written is underlined, a power loss red.

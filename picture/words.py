@@ -1,6 +1,7 @@
 """Plain words for a board's places, trailers, flags, steps and refusals."""
-from flash_rules import BOOT, UPDATE
-from places import SWAP, flag_written, sector_of, state_at
+from model.flash import BOOT, UPDATE
+from model.slots import state_at
+from picture.places import SWAP, flag_written, sector_of
 
 NAMES = "BOOT", "UPDATE", "SWAP"
 STATES = {0xFF: "new", 0x70: "updating", 0x10: "on trial", 0x00: "confirmed", 0x30: "spent"}

@@ -1,7 +1,7 @@
 #!/usr/bin/env python3
-"""The packing command against an implementation written from document 01 alone, tests/vectors/header_rules.py: the
-whole output, for inputs at the edges of what it takes and for random ones; files that cannot be read; the stored run of
-the crate; and the options of ./frondicare pack. The seed is printed, and SEED=.. repeats a run.
+"""The packing command against the reference model, model/: the whole output, for inputs at the edges of what it takes
+and for random ones; files that cannot be read; the stored run of the crate; and the options of ./frondicare pack. The
+seed is printed, and SEED=.. repeats a run.
 Usage: pack.py COMMAND"""
 import os
 import random
@@ -13,9 +13,9 @@ from collections import Counter
 from dataclasses import replace
 from pathlib import Path
 
-sys.dont_write_bytecode = True
-sys.path.insert(0, str(Path(__file__).parent.parent / "vectors"))
-from pack_inputs import BITS, Inputs, drawn, edges, expected
+if __name__ == "__main__":
+    sys.path.insert(0, str(Path(__file__).resolve().parents[2]))
+from tests.command.pack_inputs import BITS, Inputs, drawn, edges, expected
 
 ROOT = Path(__file__).parent.parent.parent
 DRAWN = 400
@@ -136,4 +136,5 @@ def main():
     print(f"packing command: {sum(seen.values())} inputs and {others} other cases passed:", dict(sorted(seen.items())))
 
 
-main()
+if __name__ == "__main__":
+    main()

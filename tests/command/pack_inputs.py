@@ -1,8 +1,10 @@
-"""Inputs for the packing command: what it is given, and what it must print by tests/vectors/header_rules.py."""
+"""Inputs for the packing command: what it is given, and what it must print by the reference model."""
 import re
 from dataclasses import dataclass
 
-from header_rules import HINT, MANDATORY, Refused, digest_to_sign, tag, write
+from model.header import HINT, MANDATORY
+from model.refusals import Refused
+from model.writer import digest_to_sign, tag, write
 
 BITS = {"version": 32, "timestamp": 64, "type": 16}
 MOST_FIRMWARE = 64 * 4096 - 256

@@ -1,7 +1,6 @@
 #!/usr/bin/env python3
-"""The simulator command against an implementation written from document 01 alone, tests/vectors/runner_rules.py: the
-whole output, for inputs at the edges of what it takes, for the stored cases' boards, and for random boards. The seed is
-printed, and SEED=.. repeats a run.
+"""The simulator command against the reference model, model/: the whole output, for inputs at the edges of what it
+takes, for the stored cases' boards, and for random boards. The seed is printed, and SEED=.. repeats a run.
 Usage: simulator.py COMMAND"""
 import os
 import random
@@ -12,10 +11,10 @@ import time
 from collections import Counter
 from pathlib import Path
 
-sys.dont_write_bytecode = True
-sys.path.insert(0, str(Path(__file__).parent.parent / "vectors"))
-from runner_rules import simulate
-from simulator_inputs import board, edges, stored
+if __name__ == "__main__":
+    sys.path.insert(0, str(Path(__file__).resolve().parents[2]))
+from model.simulator import simulate
+from tests.command.simulator_inputs import board, edges, stored
 
 BOARDS = 1000
 VERDICTS = [f"REFUSE {number}" for number in range(11, 19)]
@@ -75,4 +74,5 @@ def main():
           dict(sorted((f"{last}, {'steps' if steps else 'none'}", count) for (steps, last), count in seen.items())))
 
 
-main()
+if __name__ == "__main__":
+    main()

@@ -1,32 +1,20 @@
 """Standard inputs for the simulator: at the edges of what it takes, of the stored cases, and random boards."""
-import struct
 from dataclasses import replace
 
-import loader_boots
-import loader_calls
-import loader_geometries
-import loader_returns
-import loader_stories
-import loader_swaps
-import loader_trailers
-import loader_updates
-import runner_answers
-import runner_ends
-import runner_refusals
-import runner_updates
-from flash_case import laid_over
-from flash_rules import BOOT, SECTOR_SIZES, UPDATE, Geometry, flag_at
-from loader_case import BOTH, U70, G, filled, sound
-from loader_images import BROKEN, ONE, TWO, written
-from runner_rules import LETTERS, run
+from model.board import record, signed
+from model.flash import BOOT, SECTOR_SIZES, UPDATE, Geometry
+from model.runner import LETTERS, run
+from model.slots import flag_at
+from tests.vectors import (loader_boots, loader_calls, loader_geometries, loader_returns, loader_stories, loader_swaps,
+                           loader_trailers, loader_updates, runner_answers, runner_ends, runner_refusals,
+                           runner_updates)
+from tests.vectors.flash_case import laid_over
+from tests.vectors.loader_case import BOTH, U70, G, filled, sound
+from tests.vectors.loader_images import BROKEN, ONE, TWO, written
 
 TOPICS = [loader_geometries, loader_boots, loader_updates, loader_swaps, loader_trailers, loader_returns, loader_calls,
           loader_stories, runner_refusals, runner_updates, runner_answers, runner_ends]
 MOST = 65_536
-
-
-def record(geometry, answers):
-    return struct.pack("<6I", geometry.z, geometry.n, geometry.boot, geometry.update, geometry.swap, answers)
 
 
 def edges(random):
@@ -97,7 +85,7 @@ def trailers(random, where):
 
 def torn(random, where, flash, answers):
     """What a cut leaves: some steps are done, and the sector that the next one writes holds any bytes."""
-    outcome = run(where, flash, (answers & 1, answers & 2), random.randint(0, 9 * where.n), (0,) * len(LETTERS))
+    outcome = run(where, flash, signed(answers), random.randint(0, 9 * where.n), (0,) * len(LETTERS))
     if outcome.answer.step is None:
         return outcome.flash
     letter, at, *to = outcome.answer.step

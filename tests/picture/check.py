@@ -1,20 +1,21 @@
 """One board drawn as text and as SVG by the picture's own main, read back, and held to what is expected."""
 import contextlib
 import io
-import runpy
 from pathlib import Path
 
-from closing import check_closing
-from drawn import read_svg, read_text
-from flash_rules import BOOT, UPDATE, Refused, image, progress, sound_with
-from history import expected
-from rows import SLOTS, check_between, check_rows
-from runner_rules import simulate
-from standalone import check_standalone
-from visible import check_visible
+from model.flash import BOOT, UPDATE
+from model.refusals import Refused
+from model.simulator import simulate
+from model.slots import image, progress, sound_with
+from picture.__main__ import main
+from tests.picture.closing import check_closing
+from tests.picture.drawn import read_svg, read_text
+from tests.picture.history import expected
+from tests.picture.rows import SLOTS, check_between, check_rows
+from tests.picture.standalone import check_standalone
+from tests.picture.visible import check_visible
 
 ROOT = Path(__file__).resolve().parents[2]
-main = runpy.run_path(str(ROOT / "picture"))["main"]
 
 
 def printed(*words):

@@ -1,9 +1,11 @@
 """Whether what a picture says in the end is so."""
 import re
 
-import header_rules
-from flash_rules import BOOT, UPDATE, image
-from rows import SLOTS, end_words, mends
+from model import header
+from model.flash import BOOT, UPDATE
+from model.refusals import Refused
+from model.slots import image
+from tests.picture.rows import SLOTS, end_words, mends
 
 SLOT = re.compile(r"(BOOT|UPDATE): (version (\d+), whole|does not pass, .*); (.*)")
 STEPS = re.compile(r"(no step is due|(\d+) steps? begun), (no power loss|(\d+) power loss(?:es)?, (mended|\d+ mended))")
@@ -15,9 +17,9 @@ def check_slot(expected, slot, line, images):
     name, text, version, origin = SLOT.fullmatch(line).groups()
     assert name == SLOTS[slot], line
     try:
-        header_rules.verify(held, expected.answers >> slot & 1)
-        assert int(version) == header_rules.version(held), line
-    except header_rules.Refused:
+        header.verify(held, expected.answers >> slot & 1)
+        assert int(version) == header.version(held), line
+    except Refused:
         assert version is None, line
     if images is not None:
         origins = [SLOTS[i] for i in (BOOT, UPDATE) if images[i].ljust(g.n * g.z, b"\xff") == held]

@@ -1,10 +1,12 @@
 """What the picture of a board has to show: the rows of its power-ups with the flash after each, worked out from
-document 01 with the steps that runner_rules.py gives, without the simulator and the picture's own modules."""
-import struct
+document 01 with the steps that the reference model gives, without the simulator and the picture's own modules."""
 from typing import NamedTuple
 
-from flash_rules import BOOT, CLOSING, UPDATE, Geometry, Refused, progress, sound_with
-from runner_rules import simulate
+from model.board import Board, board_of
+from model.flash import BOOT, CLOSING, UPDATE, Geometry
+from model.refusals import Refused
+from model.simulator import simulate
+from model.slots import progress, sound_with
 
 
 class Row(NamedTuple):
@@ -67,8 +69,7 @@ def ended(g, flash):
 
 def power_up(g, flash, answers, cut, simulated):
     """Its rows, its last line, and the signature answers after it."""
-    numbers = struct.pack("<6I", g.z, g.n, g.boot, g.update, g.swap, answers)
-    *lines, end = simulated(numbers + flash).splitlines()
+    *lines, end = simulated(Board(g, flash, answers).data()).splitlines()
     rows = []
     for number, line in enumerate(lines, 1):
         step = (line[0], *map(int, line.split()[1:]))
@@ -84,13 +85,12 @@ def power_up(g, flash, answers, cut, simulated):
 
 
 def expected(data, cuts, boots, simulated=simulate):
-    *numbers, answers = struct.unpack("<6I", data[:24])
-    g = Geometry(*numbers, len(data) - 24)
-    rows, breaks, end = [Row(0, None, data[24:])], [], ""
+    g, flash, answers = board_of(data)
+    rows, breaks, end = [Row(0, None, flash)], [], ""
     cuts = list(cuts)
     while boots > 0 and not end.startswith("REFUSE"):
         breaks += [(len(rows), end)] if end else []
-        more, end, answers = power_up(g, rows[-1].flash, answers % 4, cuts.pop(0) if cuts else 0, simulated)
+        more, end, answers = power_up(g, rows[-1].flash, answers, cuts.pop(0) if cuts else 0, simulated)
         rows += more
         boots -= end.startswith("BOOT")
     return Expected(g, rows, breaks, end, answers)

@@ -1,7 +1,8 @@
 """Whether the rows of a picture that was read back, and the lines between them, show what is expected."""
-from flash_rules import BOOT, CLOSING, UPDATE, flags
-from history import done
-from labels import Labels
+from model.flash import BOOT, CLOSING, UPDATE
+from model.slots import flags
+from tests.picture.history import done
+from tests.picture.labels import Labels
 
 SLOTS = "BOOT", "UPDATE"
 STATES = {0xFF: "new", 0x70: "updating", 0x10: "on trial", 0x00: "confirmed", 0x30: "spent"}

@@ -1,11 +1,13 @@
 """Random updates that demand 3 speaks of, and cuts that fall on steps which are there."""
 from typing import NamedTuple
 
-from flash_rules import UPDATE, flag_at
-from history import expected
-from loader_case import BOTH, filled, sound
-from loader_images import written
-from simulator_inputs import geometry, record
+from model.board import record
+from model.flash import UPDATE
+from model.slots import flag_at
+from tests.command.simulator_inputs import geometry
+from tests.picture.history import expected
+from tests.vectors.loader_case import BOTH, filled, sound
+from tests.vectors.loader_images import written
 
 
 class Update(NamedTuple):

@@ -3,7 +3,7 @@ are left out, but not those of trailers and of SWAP."""
 import re
 import xml.etree.ElementTree as ElementTree
 
-from drawn import SVG, named_cells
+from tests.picture.drawn import SVG, named_cells
 
 NUMBER = re.compile(r"sector (\d+) of ")
 

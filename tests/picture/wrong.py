@@ -1,6 +1,6 @@
 """Loaders that print wrong steps: the picture has to show what the steps do, and to say what is lost."""
-import power_ups
-from check import ROOT, check
+from picture import power_ups
+from tests.picture.check import ROOT, check
 
 DATA = (ROOT / "examples/board/update.bin").read_bytes()
 # Steps on the example board, and what has to be said of BOOT and of UPDATE.

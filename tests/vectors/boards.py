@@ -2,15 +2,17 @@
 """Writes the boards of examples/board, as document 01's simulator takes them: its example; the same board after that
 update; and the update cut by a power loss while it writes BOOT's first sector, which holds half of the copy then.
 Usage: boards.py update > examples/board/update.bin, and so for return and interrupted"""
-import struct
 import sys
+from pathlib import Path
 
-sys.dont_write_bytecode = True
-from flash_case import laid_over
-from loader_case import BOTH, U70, G, filled
-from loader_images import ONE, TWO
-from loader_rules import carried_out
-from loader_stories import EXCHANGE
+if __name__ == "__main__":
+    sys.path.insert(0, str(Path(__file__).resolve().parents[2]))
+from model.board import record
+from model.flash import carried_out
+from tests.vectors.flash_case import laid_over
+from tests.vectors.loader_case import BOTH, U70, G, filled
+from tests.vectors.loader_images import ONE, TWO
+from tests.vectors.loader_stories import EXCHANGE
 
 STEPS = f"{EXCHANGE}; B 763 16; M 764; B 1531 48".split("; ")
 CUT = "C 1536 0"
@@ -35,7 +37,8 @@ BOARDS = {
 def main():
     if len(sys.argv) != 2 or sys.argv[1] not in BOARDS:
         sys.exit(f"usage: {sys.argv[0]} {' | '.join(BOARDS)}")
-    sys.stdout.buffer.write(struct.pack("<6I", G.z, G.n, G.boot, G.update, G.swap, BOTH) + BOARDS[sys.argv[1]])
+    sys.stdout.buffer.write(record(G, BOTH) + BOARDS[sys.argv[1]])
 
 
-main()
+if __name__ == "__main__":
+    main()

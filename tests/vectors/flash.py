@@ -1,19 +1,17 @@
 #!/usr/bin/env python3
-"""Writes the files of the program flash_cases with an implementation written from document 01 alone, flash_rules.py.
-The cases stand beside it, with the answers that document 01 states or that a reader of it can write down, and the
-implementation is held to those first.
+"""Writes the files of the program flash_cases with the reference model, model/. The cases stand beside this file, with
+the answers that document 01 states or that a reader of it can write down, and the model is held to those first.
 Usage: flash.py stdin > crates/flash_cases/stdin, and flash.py stdout > crates/flash_cases/stdout"""
 import struct
 import sys
+from pathlib import Path
 
-sys.dont_write_bytecode = True
-import flash_flags
-import flash_geometries
-import flash_rules as rules
-import flash_steps
-import flash_trailers
-import stored
-from flash_case import digest
+if __name__ == "__main__":
+    sys.path.insert(0, str(Path(__file__).resolve().parents[2]))
+from model import flash, slots
+from model.refusals import Refused
+from tests.vectors import flash_flags, flash_geometries, flash_steps, flash_trailers, stored
+from tests.vectors.flash_case import digest
 
 CASES = flash_geometries.CASES + flash_steps.CASES + flash_trailers.CASES + flash_flags.CASES
 # The numbers that each command has to answer somewhere, beside 0.
@@ -38,20 +36,20 @@ def step_text(step):
 def accepted(case):
     """What the program prints after the name where nothing is refused."""
     if case.command == "G":
-        rules.check(case.geometry)
+        flash.check(case.geometry)
         return "OK"
     asked = case.geometry, case.flash()
     if case.command == "S":
-        return f"0 {digest(rules.apply(*asked, case.kind, case.at, case.to, case.value))}"
+        return f"0 {digest(flash.apply(*asked, case.kind, case.at, case.to, case.value))}"
     if case.command == "R":
-        return step_text(rules.renewal(*asked, case.kind, case.value))
+        return step_text(slots.renewal(*asked, case.kind, case.value))
     if case.command == "P":
-        return str(rules.progress(*asked))
+        return str(slots.progress(*asked))
     if case.command == "F":
-        return step_text(rules.flag_step(*asked, case.at))
+        return step_text(slots.flag_step(*asked, case.at))
     if case.command == "T":
-        return "YES" if rules.sound_with(*asked, case.kind, case.value) else "NO"
-    image = rules.image(*asked, case.kind)
+        return "YES" if slots.sound_with(*asked, case.kind, case.value) else "NO"
+    image = slots.image(*asked, case.kind)
     return f"{len(image)} {digest(image)}"
 
 
@@ -59,8 +57,8 @@ def answer(case):
     """The number, and what the program prints after the name."""
     try:
         return 0, accepted(case)
-    except rules.Refused as refused:
-        number = refused.args[0]
+    except Refused as refused:
+        number = refused.number
         return number, f"{number} {digest(case.flash())}" if case.command == "S" else f"REFUSE {number}"
 
 
@@ -81,4 +79,5 @@ def main():
     stored.write(CASES, answers, record, 262_144)
 
 
-main()
+if __name__ == "__main__":
+    main()

@@ -2,7 +2,7 @@
 import hashlib
 from dataclasses import dataclass
 
-from flash_rules import Geometry
+from model.flash import Geometry
 
 # Document 01's geometry G.
 G = Geometry(z=256, n=2, boot=0, update=768, swap=1536, length=1792)

@@ -1,8 +1,8 @@
 """Cases of UPDATE's flags: how far an exchange has come, and the Byte that takes it one further."""
 from dataclasses import replace
 
-from flash_case import G, GAPS, MOST, THREE, TURNED, Case, hexed
-from flash_rules import Geometry
+from model.flash import Geometry
+from tests.vectors.flash_case import GAPS, MOST, THREE, TURNED, Case, G, hexed
 
 TOP = 2 ** 64
 FOUR = Geometry(z=256, n=4, boot=0, update=1280, swap=2560, length=2816)
@@ -87,6 +87,8 @@ LONG = [
     progress("03 00 00 00 00 00 00", 38, THIRTEEN),
     progress("80 00 00 00 00 00 00", 39, THIRTEEN),
 ]
+
+
 def of_32(finished, *current):
     """32 flag bytes: new ones, the current one, and so many finished ones behind it."""
     return " ".join(["FF"] * (32 - len(current) - finished) + list(current) + ["00"] * finished)

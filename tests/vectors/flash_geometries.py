@@ -2,8 +2,8 @@
 from dataclasses import replace
 from itertools import permutations
 
-from flash_case import G, Case
-from flash_rules import SECTOR_SIZES, Geometry
+from model.flash import SECTOR_SIZES, Geometry
+from tests.vectors.flash_case import Case, G
 
 TOP = 2 ** 64
 

@@ -1,8 +1,8 @@
 """Cases of carrying out a step. Each states the number and the bytes that differ afterwards."""
 from dataclasses import replace
 
-from flash_case import G, GAPS, MOST, TURNED, Case, digest, hexed, laid_over
-from flash_rules import BYTE, COPY, ERASE, MARK, Geometry
+from model.flash import BYTE, COPY, ERASE, MARK, Geometry
+from tests.vectors.flash_case import GAPS, MOST, TURNED, Case, G, digest, hexed, laid_over
 
 TOP = 2 ** 64
 LARGE = Geometry(z=1024, n=1, boot=0, update=2048, swap=4096, length=5120)

@@ -1,8 +1,8 @@
 """Cases of a slot's trailer, sound with a state or renewed to one, and of its image."""
 from dataclasses import replace
 
-from flash_case import G, GAPS, MOST, THREE, TURNED, Case, digest, hexed, laid_over
-from flash_rules import BOOT, UPDATE, Geometry
+from model.flash import BOOT, UPDATE, Geometry
+from tests.vectors.flash_case import GAPS, MOST, THREE, TURNED, Case, G, digest, hexed, laid_over
 
 SLOTS = {BOOT: "BOOT", UPDATE: "UPDATE"}
 # In G, a state byte and what should close the trailer behind it.

@@ -1,17 +1,16 @@
 #!/usr/bin/env python3
-"""Writes the files of the program header_cases with an implementation written from document 01 alone, header_rules.py.
-The cases stand beside it, with the answers that document 01 states or that a reader of it can write down, and the
-implementation is held to those first.
+"""Writes the files of the program header_cases with the reference model, model/. The cases stand beside this file, with
+the answers that document 01 states or that a reader of it can write down, and the model is held to those first.
 Usage: header.py stdin > crates/header_cases/stdin, and header.py stdout > crates/header_cases/stdout"""
 import struct
 import sys
+from pathlib import Path
 
-sys.dont_write_bytecode = True
-import header_lookups
-import header_rules as rules
-import header_verdicts
-import header_writes
-import stored
+if __name__ == "__main__":
+    sys.path.insert(0, str(Path(__file__).resolve().parents[2]))
+from model import header, writer
+from model.refusals import Refused
+from tests.vectors import header_lookups, header_verdicts, header_writes, stored
 
 CASES = header_lookups.CASES + header_verdicts.CASES + header_writes.CASES
 NUMBERS = [10, 11, 12, 13, 14, 15, 16, 17, 18, 25, 26, 27]
@@ -29,17 +28,17 @@ def record(case):
 def accepted(case):
     """What the program prints after the name where nothing is refused."""
     if case.command == "F":
-        return "{} {}".format(*rules.find(case.body, case.kind))
+        return "{} {}".format(*header.find(case.body, case.kind))
     if case.command == "W":
-        return rules.view(case.body, case.kind).hex()
+        return header.view(case.body, case.kind).hex()
     if case.command == "V":
-        rules.verify(case.body, case.signature_ok)
+        header.verify(case.body, case.signature_ok)
         return "PASS"
     if case.command == "N":
-        return str(rules.version(case.body))
+        return str(header.version(case.body))
     if case.command == "D":
-        return rules.digest_to_sign(case.fields, case.body, case.custom, case.hint).hex()
-    buffer = rules.write(case.buffer_length, case.fields, case.body, case.custom, case.hint, case.signature)
+        return writer.digest_to_sign(case.fields, case.body, case.custom, case.hint).hex()
+    buffer = writer.write(case.buffer_length, case.fields, case.body, case.custom, case.hint, case.signature)
     return f"0 {buffer.hex()}"
 
 
@@ -47,8 +46,8 @@ def answer(case):
     """The number, and what the program prints after the name."""
     try:
         return 0, accepted(case)
-    except rules.Refused as refused:
-        number = refused.args[0]
+    except Refused as refused:
+        number = refused.number
         return number, f"{number} {'a5' * case.buffer_length}" if case.command == "H" else f"REFUSE {number}"
 
 
@@ -66,4 +65,5 @@ def main():
     stored.write(CASES, answers, record, 64_000)
 
 
-main()
+if __name__ == "__main__":
+    main()

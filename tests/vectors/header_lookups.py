@@ -1,6 +1,7 @@
 """Cases of lookup and view."""
-from header_case import Case
-from header_rules import HINT, VERSION, tag
+from model.header import HINT, VERSION
+from model.writer import tag
+from tests.vectors.header_case import Case
 
 FREE = 0x0042
 

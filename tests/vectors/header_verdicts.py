@@ -2,8 +2,9 @@
 import hashlib
 import struct
 
-from header_case import Case
-from header_rules import DIGEST, FIRMWARE_TYPE, HINT, MARK, SIGNATURE, TIMESTAMP, VERSION, tag
+from model.header import DIGEST, FIRMWARE_TYPE, HINT, MARK, SIGNATURE, TIMESTAMP, VERSION
+from model.writer import tag
+from tests.vectors.header_case import Case
 
 FIRMWARE = bytes(range(0x11, 0x19))
 PAD = b"\xff"

@@ -1,6 +1,7 @@
 """Cases of the writer's two calls, and of what it wrote."""
-from header_case import Case
-from header_rules import DIGEST, FIRMWARE_TYPE, HINT, SIGNATURE, TIMESTAMP, VERSION, tag, write
+from model.header import DIGEST, FIRMWARE_TYPE, HINT, SIGNATURE, TIMESTAMP, VERSION
+from model.writer import tag, write
+from tests.vectors.header_case import Case
 
 FIELDS = (5, 1700000000, 0x0201)
 FIRMWARE = bytes(range(1, 21))
@@ -18,7 +19,8 @@ def given(name, command, says, custom=b"", firmware=FIRMWARE, fields=FIELDS, buf
 
 def writes(name, custom, **others):
     """Accepted: the digest to sign and the header, whose bytes only the implementation knows."""
-    return [given(f"to sign, {name}", "D", None, custom, **others), given(f"write, {name}", "H", None, custom, **others)]
+    return [given(f"to sign, {name}", "D", None, custom, **others),
+            given(f"write, {name}", "H", None, custom, **others)]
 
 
 def refuses(name, number, custom, **others):

@@ -1,7 +1,7 @@
 """Cases where nothing is staged and BOOT isn't on trial: BOOT's verdict alone decides."""
-from flash_rules import BOOT
-from loader_case import BOOT_ONLY, NEITHER, UPDATE_ONLY, Case, filled, sound
-from loader_images import BROKEN, ONE, PADDED, TWO
+from model.flash import BOOT
+from tests.vectors.loader_case import BOOT_ONLY, NEITHER, UPDATE_ONLY, Case, filled, sound
+from tests.vectors.loader_images import BROKEN, ONE, PADDED, TWO
 
 CASES = [
     Case("nothing staged", "n", "BOOT 0", filled(ONE, TWO)),

@@ -1,7 +1,7 @@
 """Cases of trigger and confirm. Neither asks for an image or a signature."""
-from flash_rules import BOOT
-from loader_case import B10, NEITHER, U30, U70, Case, filled, flag_byte, sound, story
-from loader_images import BROKEN, ONE, TWO
+from model.flash import BOOT
+from tests.vectors.loader_case import B10, NEITHER, U30, U70, Case, filled, flag_byte, sound, story
+from tests.vectors.loader_images import BROKEN, ONE, TWO
 
 RENEWED = "B 1531 112; M 1532; FINISHED"
 # Trailers of every kind are triggered in loader_trailers.py.

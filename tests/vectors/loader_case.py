@@ -1,9 +1,9 @@
 """One case of loader_cases: what is asked, and the answer that a reader of document 01 can write down."""
 from dataclasses import dataclass
 
-from flash_case import G, laid_over
-from flash_flags import flag_bytes
-from flash_rules import BOOT, CLOSING, UPDATE, Geometry
+from model.flash import BOOT, CLOSING, UPDATE, Geometry
+from tests.vectors.flash_case import G, laid_over
+from tests.vectors.flash_flags import flag_bytes
 
 # The checker's answers: the slots whose signature it accepts.
 NEITHER, BOOT_ONLY, UPDATE_ONLY, BOTH = range(4)

@@ -1,8 +1,8 @@
 """Cases of refused geometries: their numbers come first, whatever the flash holds, and nothing is carried out."""
 from dataclasses import replace
 
-from loader_case import B10, G, U70, Case, filled, flag_byte
-from loader_images import ONE, TWO
+from tests.vectors.loader_case import B10, U70, Case, G, filled, flag_byte
+from tests.vectors.loader_images import ONE, TWO
 
 CALLS = {"N": "next step", "T": "trigger", "C": "confirm"}
 

@@ -1,6 +1,6 @@
 """Images that the cases lay into the slots."""
-from header_rules import tag, write
-from header_verdicts import BAD, D, PAD, PLAIN, S, T, V, Y, changed, image, shorter, sized
+from model.writer import tag, write
+from tests.vectors.header_verdicts import BAD, PAD, PLAIN, D, S, T, V, Y, changed, image, shorter, sized
 
 
 def written(version, firmware=b"\x11" * 256):

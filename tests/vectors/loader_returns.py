@@ -1,6 +1,6 @@
 """Cases of a return that is to begin (BOOT on trial, UPDATE not sound with 70), and of the last steps of an update."""
-from loader_case import B10, BOOT_ONLY, NEITHER, U30, U70, UPDATE_ONLY, Case, filled, flag_byte, story
-from loader_images import BROKEN, ONE, TWO
+from tests.vectors.loader_case import B10, BOOT_ONLY, NEITHER, U30, U70, UPDATE_ONLY, Case, filled, flag_byte, story
+from tests.vectors.loader_images import BROKEN, ONE, TWO
 
 SPENT = U30, flag_byte("00")
 BEGINS = "E 1280"

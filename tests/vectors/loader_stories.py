@@ -1,10 +1,10 @@
 """Whole updates, step by step: document 01's example, the return after it, and updates with other geometries."""
-from flash_case import GAPS, THREE, TURNED
-from flash_flags import LARGEST, flag_bytes, of_32
-from flash_rules import UPDATE, Geometry
-from header_verdicts import PLAIN
-from loader_case import U70, Case, filled, sound, story
-from loader_images import ONE, TWO, written
+from model.flash import UPDATE, Geometry
+from tests.vectors.flash_case import GAPS, THREE, TURNED
+from tests.vectors.flash_flags import LARGEST, flag_bytes, of_32
+from tests.vectors.header_verdicts import PLAIN
+from tests.vectors.loader_case import U70, Case, filled, sound, story
+from tests.vectors.loader_images import ONE, TWO, written
 
 Z512 = Geometry(z=512, n=1, boot=0, update=1024, swap=2048, length=2560)
 Z4096 = Geometry(z=4096, n=1, boot=0, update=8192, swap=16384, length=20480)

@@ -1,7 +1,7 @@
 """Cases of flags in an exchange: ill-formed ones, and each stage's step, for which nothing is verified."""
-from flash_rules import BOOT
-from loader_case import B10, BOOT_ONLY, NEITHER, U70, Case, filled, flag_byte, sound, story
-from loader_images import ONE, TWO, written
+from model.flash import BOOT
+from tests.vectors.loader_case import B10, BOOT_ONLY, NEITHER, U70, Case, filled, flag_byte, sound, story
+from tests.vectors.loader_images import ONE, TWO, written
 
 # In mid-swap: flag byte, source, target, and the Byte with the next flag and the other half as it is.
 STAGES = [

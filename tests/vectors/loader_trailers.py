@@ -1,7 +1,7 @@
 """Cases of the trailers that a decision goes by, in every kind: UPDATE not sound with 70, BOOT not sound with 10."""
-from flash_rules import BOOT, UPDATE
-from loader_case import B10, U30, U70, Case, filled, flag_byte, sound, state, story
-from loader_images import ONE, TWO
+from model.flash import BOOT, UPDATE
+from tests.vectors.loader_case import B10, U30, U70, Case, filled, flag_byte, sound, state, story
+from tests.vectors.loader_images import ONE, TWO
 
 # The closing bytes with one of them changed.
 NEAR = ("43 4F 4F 54", "42 4E 4F 54", "42 4F 4D 54", "42 4F 4F 55")

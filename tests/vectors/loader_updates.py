@@ -1,6 +1,6 @@
 """Cases of an update that is to begin: UPDATE's verdict, and the version rule where BOOT isn't on trial."""
-from loader_case import B10, BOOT_ONLY, BOTH, NEITHER, U70, UPDATE_ONLY, Case, filled
-from loader_images import BROKEN, ONE, PADDED, TWO, written
+from tests.vectors.loader_case import B10, BOOT_ONLY, BOTH, NEITHER, U70, UPDATE_ONLY, Case, filled
+from tests.vectors.loader_images import BROKEN, ONE, PADDED, TWO, written
 
 BEGINS = "C 768 1536"
 # Bits of the answers that don't count.

@@ -1,7 +1,6 @@
 #!/usr/bin/env python3
-"""Writes the files of the program runner_cases with an implementation written from document 01 alone, runner_rules.py.
-The cases stand beside it, with the answers that document 01 states or that a reader of it can write down, and the
-implementation is held to those first.
+"""Writes the files of the program runner_cases with the reference model, model/. The cases stand beside this file, with
+the answers that document 01 states or that a reader of it can write down, and the model is held to those first.
 Usage: runner.py stdin > crates/runner_cases/stdin, and runner.py stdout > crates/runner_cases/stdout
 
 Standard input has one record behind the other. A record is
@@ -20,25 +19,20 @@ REFUSE and the number. The counters are those after the run, and DIGEST is the S
 has at most 524,288 bytes and a flash at most 65,536."""
 import struct
 import sys
+from pathlib import Path
 
-sys.dont_write_bytecode = True
-import runner_answers
-import runner_ends
-import runner_refusals
-import runner_rules as rules
-import runner_updates
-import stored
-from flash_case import digest
-from runner_case import agrees, kinds
+if __name__ == "__main__":
+    sys.path.insert(0, str(Path(__file__).resolve().parents[2]))
+from model import board
+from model.runner import run
+from model.simulator import MOST_FLASH
+from tests.vectors import runner_answers, runner_ends, runner_refusals, runner_updates
+from tests.vectors.flash_case import digest
+from tests.vectors.runner_case import agrees, kinds
+from tests.vectors.stored import answer_text, check_names, each, kind_of, write
 
 TOPICS = [runner_refusals, runner_updates, runner_answers, runner_ends]
 CASES = [case for topic in TOPICS for case in topic.CASES]
-
-
-def each(word, *numbers):
-    return {f"{word} {number}" for number in numbers}
-
-
 # What runs answer that did no step, and those that did; of a step the letter.
 ANSWERS = {
     False: each("REFUSE", 1, 2, 3, 4, *range(11, 19), 20, 28, 29) | each("BOOT", 0, *range(11, 20))
@@ -49,9 +43,8 @@ ANSWERS = {
 
 def record(case):
     """The case as the program reads it."""
-    name, flash, geometry = case.name.encode("ascii"), case.flash or b"", case.geometry
-    numbers = struct.pack("<12I", geometry.z, geometry.n, geometry.boot, geometry.update, geometry.swap, case.answers,
-                          case.number, *case.counts, len(flash))
+    name, flash = case.name.encode("ascii"), case.flash or b""
+    numbers = board.record(case.geometry, case.answers) + struct.pack("<6I", case.number, *case.counts, len(flash))
     return bytes([len(name)]) + name + numbers + flash
 
 
@@ -60,15 +53,15 @@ def run_all():
     outcomes, flash = [], None
     for case in CASES:
         flash = case.flash or flash
-        assert len(flash) == case.geometry.length <= rules.MOST_FLASH, case.name
-        outcome = rules.run(case.geometry, flash, (case.answers & 1, case.answers & 2), case.number, case.counts)
+        assert len(flash) == case.geometry.length <= MOST_FLASH, case.name
+        outcome = run(case.geometry, flash, board.signed(case.answers), case.number, case.counts)
         outcomes.append((flash, outcome))
         flash = outcome.flash
     return outcomes
 
 
 def check_case(case, before, outcome):
-    text = rules.answer_text(outcome.answer)
+    text = answer_text(outcome.answer)
     assert text == case.says, f"{case.name}: {text}, not {case.says}"
     assert agrees(case.does, outcome.steps), f"{case.name}: {outcome.steps}"
     assert outcome.counts == tuple(map(sum, zip(case.counts, kinds(case.does)))), f"{case.name}: {outcome.counts}"
@@ -76,28 +69,25 @@ def check_case(case, before, outcome):
     assert leaves in (None, outcome.flash), f"{case.name}: another flash"
 
 
-def kind(text):
-    return text if text.startswith(("REFUSE", "BOOT")) else text.rstrip(" 0123456789")
-
-
 def check(outcomes):
     """Each case does what it states, each answer occurs, and no name occurs twice."""
     for case, (before, outcome) in zip(CASES, outcomes):
         check_case(case, before, outcome)
     for done, expected in ANSWERS.items():
-        seen = {kind(case.says) for case, (_, outcome) in zip(CASES, outcomes) if bool(outcome.steps) == done}
+        seen = {kind_of(case.says) for case, (_, outcome) in zip(CASES, outcomes) if bool(outcome.steps) == done}
         assert seen == expected, (done, seen ^ expected)
-    stored.check_names(CASES)
+    check_names(CASES)
 
 
 def text_of(outcome):
-    return f"{rules.answer_text(outcome.answer)}\n{' '.join(map(str, outcome.counts))} {digest(outcome.flash)}"
+    return f"{answer_text(outcome.answer)}\n{' '.join(map(str, outcome.counts))} {digest(outcome.flash)}"
 
 
 def main():
     outcomes = run_all()
     check(outcomes)
-    stored.write(CASES, [(None, text_of(outcome)) for _, outcome in outcomes], record, 524_288)
+    write(CASES, [(None, text_of(outcome)) for _, outcome in outcomes], record, 524_288)
 
 
-main()
+if __name__ == "__main__":
+    main()

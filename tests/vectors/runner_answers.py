@@ -1,10 +1,10 @@
 """Cases of the signature checker's answers in all combinations: in mid-swap they go by the slots before that swap, and
 within a run they change places when a step makes the last flag 0."""
-from flash_case import laid_over
-from loader_case import B10, BOOT_ONLY, BOTH, NEITHER, U70, UPDATE_ONLY, filled, flag_byte
-from loader_images import ONE, TWO
-from runner_case import (LAST, NOT_LAST, RENEWED, RETURNED, RETURNING, STAGED, SWAPPED, UPDATED, UPDATING, Case,
-                         ended, stopped)
+from tests.vectors.flash_case import laid_over
+from tests.vectors.loader_case import B10, BOOT_ONLY, BOTH, NEITHER, U70, UPDATE_ONLY, filled, flag_byte
+from tests.vectors.loader_images import ONE, TWO
+from tests.vectors.runner_case import (LAST, NOT_LAST, RENEWED, RETURNED, RETURNING, STAGED, SWAPPED, UPDATED,
+                                       UPDATING, Case, ended, stopped)
 
 NAMES = {NEITHER: "neither signed", BOOT_ONLY: "BOOT signed", UPDATE_ONLY: "UPDATE signed", BOTH: "both signed"}
 HALF_NEW, HALF_OLD = TWO[:256] + ONE[256:], ONE[:256] + TWO[256:]

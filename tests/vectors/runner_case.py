@@ -1,12 +1,13 @@
 """One case of runner_cases: a run, and the answer, steps and flash that a reader of document 01 can write down."""
 from dataclasses import dataclass
 
-from flash_flags import flag_bytes
-from flash_rules import BOOT, UPDATE, Geometry
-from loader_case import BOTH, U70, G, filled, sound
-from loader_images import ONE, TWO
-from loader_stories import EXCHANGE
-from runner_rules import LETTERS, MOST_STEPS, step_text
+from model.flash import BOOT, UPDATE, Geometry
+from model.runner import LETTERS, MOST_STEPS
+from model.simulator import step_text
+from tests.vectors.flash_flags import flag_bytes
+from tests.vectors.loader_case import BOTH, U70, G, filled, sound
+from tests.vectors.loader_images import ONE, TWO
+from tests.vectors.loader_stories import EXCHANGE
 
 NONE = (0, 0, 0, 0)
 

@@ -1,13 +1,13 @@
 """Cases of runs that end without a step, boots with each reason and refusals; of later refusals, which keep the steps
 done; and of runs that go on from what a cut left."""
-from flash_case import GAPS
-from flash_flags import flag_bytes
-from header_verdicts import PLAIN
-from loader_case import B10, BOOT_ONLY, NEITHER, U30, U70, UPDATE_ONLY, filled, flag_byte, state
-from loader_images import BROKEN, ONE, TWO
-from loader_stories import triggered
-from runner_case import (LAST, NOT_LAST, RENEWED, RETURNING, SWAPPED, UPDATED, UPDATING, Case, ended, exchanged,
-                         stopped)
+from tests.vectors.flash_case import GAPS
+from tests.vectors.flash_flags import flag_bytes
+from tests.vectors.header_verdicts import PLAIN
+from tests.vectors.loader_case import B10, BOOT_ONLY, NEITHER, U30, U70, UPDATE_ONLY, filled, flag_byte, state
+from tests.vectors.loader_images import BROKEN, ONE, TWO
+from tests.vectors.loader_stories import triggered
+from tests.vectors.runner_case import (LAST, NOT_LAST, RENEWED, RETURNING, SWAPPED, UPDATED, UPDATING, Case, ended,
+                                       exchanged, stopped)
 
 SPENT = B10, U30, flag_byte("00")
 BOOTS = [

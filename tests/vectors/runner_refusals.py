@@ -1,9 +1,9 @@
 """Cases of refusals before the first step: the geometry's, then 29, then 28. They change neither flash nor record."""
 from dataclasses import replace
 
-from loader_case import NEITHER, U70, G, filled, flag_byte
-from loader_images import BROKEN, ONE, TWO
-from runner_case import NONE, STAGED, UPDATED, UPDATING, Case, ended
+from tests.vectors.loader_case import NEITHER, U70, G, filled, flag_byte
+from tests.vectors.loader_images import BROKEN, ONE, TWO
+from tests.vectors.runner_case import NONE, STAGED, UPDATED, UPDATING, Case, ended
 
 MOST = 4_294_963_199
 FULL, OVER = (MOST,) * 4, (MOST + 1,) * 4

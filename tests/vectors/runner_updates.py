@@ -1,12 +1,12 @@
 """Cases of whole updates and returns: document 01's example cut short at every number, in pieces, and others."""
-from flash_case import MOST, THREE, TURNED
-from flash_flags import FOUR, LARGEST, flag_bytes
-from flash_rules import BOOT, Geometry
-from loader_case import B10, U30, U70, filled, sound, state
-from loader_images import ONE, TWO, written
-from loader_stories import Z512, Z4096, by_sector, triggered
-from runner_case import (LAST, NONE, RENEWED, RETURNED, RETURNING, STAGED, SWAPPED, UPDATED, UPDATING, Case, ended,
-                         exchanged, in_pieces, stopped)
+from model.flash import BOOT, Geometry
+from tests.vectors.flash_case import MOST, THREE, TURNED
+from tests.vectors.flash_flags import FOUR, LARGEST, flag_bytes
+from tests.vectors.loader_case import B10, U30, U70, filled, sound, state
+from tests.vectors.loader_images import ONE, TWO, written
+from tests.vectors.loader_stories import Z4096, Z512, by_sector, triggered
+from tests.vectors.runner_case import (LAST, NONE, RENEWED, RETURNED, RETURNING, STAGED, SWAPPED, UPDATED, UPDATING,
+                                       Case, ended, exchanged, in_pieces, stopped)
 
 Z1024 = Geometry(z=1024, n=2, boot=4096, update=1024, swap=0, length=7177)
 # SWAP and BOOT's trailer have to be erased.

@@ -1,14 +1,16 @@
 #!/usr/bin/env python3
 """Writes the files of the program simulator: document 01's example, and the output that document 01 prints for it. The
-implementation in runner_rules.py is held to that output.
+reference model is held to that output.
 Usage: simulator.py stdin > crates/simulator/stdin, and simulator.py stdout > crates/simulator/stdout"""
-import struct
 import sys
+from pathlib import Path
 
-sys.dont_write_bytecode = True
-from loader_case import BOTH, U70, G, filled
-from loader_images import ONE, TWO
-from runner_rules import simulate
+if __name__ == "__main__":
+    sys.path.insert(0, str(Path(__file__).resolve().parents[2]))
+from model.board import record
+from model.simulator import simulate
+from tests.vectors.loader_case import BOTH, U70, G, filled
+from tests.vectors.loader_images import ONE, TWO
 
 # As document 01 has it, one item a line.
 OUTPUT = """\
@@ -34,7 +36,7 @@ M 764
 B 1531 48
 BOOT 2
 """
-INPUT = struct.pack("<6I", G.z, G.n, G.boot, G.update, G.swap, BOTH) + filled(ONE, TWO, U70)
+INPUT = record(G, BOTH) + filled(ONE, TWO, U70)
 
 
 def main():
@@ -48,4 +50,5 @@ def main():
         sys.exit(f"usage: {sys.argv[0]} stdin | stdout")
 
 
-main()
+if __name__ == "__main__":
+    main()

@@ -1,6 +1,24 @@
 """The two files of a program over stored cases: its standard input, and the output it is held to."""
 import sys
 
+from model.simulator import step_text
+
+
+def answer_text(answer):
+    """As the programs print it."""
+    if answer.step is None:
+        return "FINISHED" if answer.kind == "FINISHED" else f"{answer.kind} {answer.number}"
+    return ("LAST " if answer.kind == "LAST" else "") + step_text(answer.step)
+
+
+def kind_of(text):
+    """An answer's text, of a step without its numbers."""
+    return text if text.startswith(("REFUSE", "BOOT", "FINISHED")) else text.rstrip(" 0123456789")
+
+
+def each(word, *numbers):
+    return {f"{word} {number}" for number in numbers}
+
 
 def check_names(cases):
     names = [case.name for case in cases]

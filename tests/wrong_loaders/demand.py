@@ -1,13 +1,14 @@
-"""Demand 3 on one board: two lists of power-ups played by the rules of tests/vectors, and what of the demand they
-break. The conclusions have the names that they have in crates/power_loss/specs/Demand.antt."""
+"""Demand 3 on one board: two lists of power-ups played by the reference model, and what of the demand they break. The
+conclusions have the names that they have in crates/power_loss/specs/Demand.antt."""
 from typing import NamedTuple
 
-import loader_rules
-import runner_rules
-from flash_rules import BOOT, CLOSING, NEW, UPDATE, UPDATED, Geometry, flags, image, sound_with
+from model import loader, runner
+from model.flash import BOOT, CLOSING, UPDATE, Geometry, carried_out
+from model.requests import trigger
+from model.runner import MOST_STEPS
+from model.slots import NEW, TESTING, UPDATED, UPDATING, flags, image, sound_with
 
-MOST_STEPS = runner_rules.MOST_STEPS
-ZEROS, NO_REASON = (0, 0, 0, 0), loader_rules.Answer("BOOT")
+ZEROS, NO_REASON = (0, 0, 0, 0), loader.Answer("BOOT")
 
 
 class Cut(NamedTuple):
@@ -36,7 +37,7 @@ def may_leave(geometry, step, left):
 
 def mid_swap(geometry, flash):
     found = set(flags(geometry, flash))
-    return sound_with(geometry, flash, UPDATE, loader_rules.UPDATING) and found not in ({NEW}, {UPDATED})
+    return sound_with(geometry, flash, UPDATE, UPDATING) and found not in ({NEW}, {UPDATED})
 
 
 class Powers:
@@ -65,7 +66,7 @@ class Powers:
         g, signed = self.board.geometry, self.board.signed
         by = self.began if mid_swap(g, self.flash) else self.flash
         answers = [signed(image(g, by, slot)) for slot in (BOOT, UPDATE)]
-        outcome, uncut = [runner_rules.run(g, self.flash, answers, most, ZEROS) for most in (number, MOST_STEPS)]
+        outcome, uncut = [runner.run(g, self.flash, answers, most, ZEROS) for most in (number, MOST_STEPS)]
         begins = outcome.steps == uncut.steps[:number] and outcome.flash == self.after(outcome.steps)
         self.note(begins, "step-by-step", f"{len(outcome.steps)} steps with the number {number}")
         self.begun += len(outcome.steps)
@@ -75,7 +76,7 @@ class Powers:
         """The flash after some steps, one at a time."""
         flash = self.flash
         for step in steps:
-            flash = loader_rules.carried_out(self.board.geometry, flash, step)
+            flash = carried_out(self.board.geometry, flash, step)
         return flash
 
     def cut(self, cut):
@@ -88,7 +89,7 @@ class Powers:
         if not may_leave(g, answer.step, cut.left):
             raise NoSuchCut
         start = answer.step[-1]
-        done = loader_rules.carried_out(g, self.flash, answer.step)
+        done = carried_out(g, self.flash, answer.step)
         self.flash = self.flash[:start] + cut.left + self.flash[start + g.z:]
         self.begun += 1
         return answer.kind == "LAST" and self.flash == done
@@ -106,9 +107,9 @@ def images(geometry, flash):
 def assert_premises(board):
     g, flash, signed = board
     answers = [signed(image(g, flash, slot)) for slot in (BOOT, UPDATE)]
-    assert loader_rules.trigger(g, flash).kind == "FINISHED"
-    assert loader_rules.verdict(g, flash, answers, BOOT) == 0
-    assert loader_rules.update_refused(g, flash, answers) == 0
+    assert trigger(g, flash).kind == "FINISHED"
+    assert loader.verdict(g, flash, answers, BOOT) == 0
+    assert loader.update_refused(g, flash, answers) == 0
 
 
 def play(board, first_cuts, second_cuts):
@@ -116,7 +117,7 @@ def play(board, first_cuts, second_cuts):
     assert_premises(board)
     g, flash, _ = board
     first = Powers(board, flash, first_cuts)
-    first.note(sound_with(g, first.flash, BOOT, loader_rules.TESTING), "on-trial")
+    first.note(sound_with(g, first.flash, BOOT, TESTING), "on-trial")
     first.note(images(g, first.flash) == images(g, flash)[::-1], "exchanged")
     second = Powers(board, first.flash, second_cuts)
     second.note(images(g, second.flash) == images(g, flash), "restored")

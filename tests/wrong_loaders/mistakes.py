@@ -1,19 +1,19 @@
-"""The wrong loaders once more, as mistakes in the rules of tests/vectors, each with a counterexample: a board and cuts
-for both lists of power-ups, and the conclusions of demand 3 that they break."""
+"""The wrong loaders once more, as mistakes in the reference model, each with a counterexample: a board and cuts for
+both lists of power-ups, and the conclusions of demand 3 that they break."""
 from contextlib import ExitStack
 from typing import NamedTuple
 from unittest.mock import patch
 
-import demand
-import loader_rules
-import runner_rules
-from demand import Board, Cut
-from flash_case import G
-from flash_rules import BOOT, CLOSING, UPDATE, flag_step, image, sound_with
-from loader_case import U70, filled
-from loader_images import ONE, TWO
-from loader_rules import SPENT, TESTING, VERSION_NOT_GREATER, Answer, boot, renewal, state_byte, verdict, version
-from runner_rules import run
+from model import loader, runner
+from model.flash import BOOT, CLOSING, UPDATE
+from model.loader import VERSION_NOT_GREATER, Answer, boot, verdict, version
+from model.runner import MOST_STEPS, run
+from model.slots import SPENT, TESTING, UPDATING, flag_step, image, renewal, sound_with, state_byte
+from tests.vectors.flash_case import G
+from tests.vectors.loader_case import U70, filled
+from tests.vectors.loader_images import ONE, TWO
+from tests.wrong_loaders import demand
+from tests.wrong_loaders.demand import Board, Cut
 
 # Document 01's example board. The checker accepts both images.
 EXAMPLE = Board(G, filled(ONE, TWO, U70), lambda image: True)
@@ -38,7 +38,7 @@ def return_only_if_spent(geometry, flash, answers):
     number = verdict(geometry, flash, signed, UPDATE)
     if number != 0:
         return boot(geometry, flash, answers, number)
-    return Answer("STEP", renewal(geometry, flash, UPDATE, loader_rules.UPDATING))
+    return Answer("STEP", renewal(geometry, flash, UPDATE, UPDATING))
 
 
 def erased_instead_of_spent(geometry, slot, state):
@@ -46,7 +46,7 @@ def erased_instead_of_spent(geometry, slot, state):
 
 
 def all_or_none(geometry, flash, answers, number, counts):
-    return run(geometry, flash, answers, number if number == runner_rules.MOST_STEPS else 0, counts)
+    return run(geometry, flash, answers, number if number == MOST_STEPS else 0, counts)
 
 
 def only_with_its_own_answer(geometry, flash, answers, slot):
@@ -59,8 +59,7 @@ def any_bytes(geometry, step, left):
 
 
 class Counterexample(NamedTuple):
-    """rules: what the wrong loader has in place of rules of tests/vectors. checks: the verdict, for a claim about every
-    verdict."""
+    """rules: what the wrong loader has in place of the model's. checks: the verdict, for a claim about any verdict."""
     rules: list
     breaks: str
     first: tuple = ()
@@ -95,23 +94,23 @@ class Counterexample(NamedTuple):
 SOUND_70 = b"\xff" * 250 + b"\x3f\x70" + CLOSING
 
 COUNTEREXAMPLES = {
-    "flag_before_its_copy": Counterexample([(loader_rules, "exchange", flag_at_once)], "first.exchanged"),
-    "version_rule_on_a_return": Counterexample([(loader_rules, "update_refused", version_rule_always)],
+    "flag_before_its_copy": Counterexample([(loader, "exchange", flag_at_once)], "first.exchanged"),
+    "version_rule_on_a_return": Counterexample([(loader, "update_refused", version_rule_always)],
                                                "second.boots (BOOT 19), second.restored"),
-    "answers_never_exchanged": Counterexample([(runner_rules, "all_updated", lambda geometry, flash: False)],
+    "answers_never_exchanged": Counterexample([(runner, "all_updated", lambda geometry, flash: False)],
                                               "first.boots (REFUSE 18), second.boots (REFUSE 18)",
                                               board=EXAMPLE._replace(signed=lambda image: image == TWO),
-                                              checks=[(loader_rules, "verdict", only_with_its_own_answer)]),
+                                              checks=[(loader, "verdict", only_with_its_own_answer)]),
     "trailer_sound_after_a_cut_erase": Counterexample([(demand, "may_leave", any_bytes)],
                                                       "second.boots (REFUSE 20), second.restored",
                                                       second=(Cut(0, SOUND_70), )),
-    "all_or_none": Counterexample([(runner_rules, "run", all_or_none)],
+    "all_or_none": Counterexample([(runner, "run", all_or_none)],
                                   "first.step-by-step (0 steps with the number 7)",
                                   first=(Cut(7), )),
-    "update_stays_staged": Counterexample([(loader_rules, "SPENT", 0x70)], "second.restored"),
-    "return_needs_a_sound_update": Counterexample([(loader_rules, "without_update", return_only_if_spent)],
+    "update_stays_staged": Counterexample([(loader, "SPENT", 0x70)], "second.restored"),
+    "return_needs_a_sound_update": Counterexample([(loader, "without_update", return_only_if_spent)],
                                                   "second.boots (BOOT 18), second.restored"),
-    "last_step_erases": Counterexample([(loader_rules, "state_byte", erased_instead_of_spent)],
+    "last_step_erases": Counterexample([(loader, "state_byte", erased_instead_of_spent)],
                                        "first.bound (42 steps of 24), first.exchanged, second.restored",
                                        first=(Cut(19, b"\x5a" * 256), )),
 }

@@ -1,12 +1,11 @@
-"""Document 01's decisions, trigger and confirm: an implementation that owes the library nothing. Refused carries a
-number of the table "Numbers given back". The checker's answers are a truth value for each slot."""
+"""Document 01's decisions, "The next step". The checker's answers are a truth value for each slot."""
 from typing import NamedTuple
 
-import header_rules
-from flash_rules import (BOOT, BYTE, COPY, ERASE, MARK, NEW, UPDATE, apply, check, flag_step, flags, image, progress,
-                         refuse, renewal, sound_with)
+from model import header
+from model.flash import BOOT, UPDATE, check
+from model.refusals import refuse
+from model.slots import SPENT, TESTING, UPDATING, flag_step, image, progress, renewal, sound_with, state_byte
 
-UPDATING, TESTING, SUCCESS, SPENT = 0x70, 0x10, 0x00, 0x30
 VERSION_NOT_GREATER = 19
 
 
@@ -19,23 +18,11 @@ class Answer(NamedTuple):
 
 def verdict(geometry, flash, answers, slot):
     """0 where the slot's image passes."""
-    try:
-        header_rules.verify(image(geometry, flash, slot), answers[slot])
-    except header_rules.Refused as refused:
-        return refused.args[0]
-    return 0
+    return header.verdict(image(geometry, flash, slot), answers[slot])
 
 
 def version(geometry, flash, slot):
-    """None where the slot's header fails one of the checks 11 to 16."""
-    try:
-        return header_rules.version(image(geometry, flash, slot))
-    except header_rules.Refused:
-        return None
-
-
-def state_byte(geometry, slot, state):
-    return "B", geometry.trailer(slot).stop - 5, state
+    return header.version_or_none(image(geometry, flash, slot))
 
 
 def last_steps(geometry, flash, answers):
@@ -98,32 +85,3 @@ def next_step(geometry, flash, answers):
     if refused != 0:
         return boot(geometry, flash, answers, refused)
     return Answer("STEP", exchange(geometry, flash, number))
-
-
-def refuse_mid_swap(geometry, flash):
-    begun = any(flag != NEW for flag in flags(geometry, flash))
-    refuse(sound_with(geometry, flash, UPDATE, UPDATING) and begun, 22)
-
-
-def trigger(geometry, flash):
-    check(geometry)
-    refuse_mid_swap(geometry, flash)
-    refuse(sound_with(geometry, flash, BOOT, TESTING), 21)
-    step = renewal(geometry, flash, UPDATE, UPDATING)
-    return Answer("FINISHED") if step is None else Answer("STEP", step)
-
-
-def confirm(geometry, flash):
-    check(geometry)
-    refuse_mid_swap(geometry, flash)
-    if sound_with(geometry, flash, BOOT, SUCCESS):
-        return Answer("FINISHED")
-    refuse(not sound_with(geometry, flash, BOOT, TESTING), 23)
-    return Answer("STEP", state_byte(geometry, BOOT, SUCCESS))
-
-
-def carried_out(geometry, flash, step):
-    """The flash after a step that was answered."""
-    letter, at, *other = step
-    op = {"E": ERASE, "C": COPY, "B": BYTE, "M": MARK}[letter]
-    return apply(geometry, flash, op, at, other[0] if op == COPY else 0, other[0] if op == BYTE else 0)

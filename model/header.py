@@ -1,20 +1,12 @@
-"""Document 01's header, read and written: an implementation that owes the library nothing. Refused carries a number of
-the table "Numbers given back"."""
+"""Document 01's header, read, and the verdict on an image."""
 import hashlib
 import struct
+
+from model.refusals import Refused, refuse
 
 VERSION, TIMESTAMP, DIGEST, HINT, SIGNATURE, FIRMWARE_TYPE = 0x0001, 0x0002, 0x0003, 0x0010, 0x0020, 0x0030
 MANDATORY = {VERSION: 4, TIMESTAMP: 8, DIGEST: 32, SIGNATURE: 64, FIRMWARE_TYPE: 2}
 MARK = bytes.fromhex("57 4F 4C 46")
-
-
-class Refused(Exception):
-    pass
-
-
-def refuse(when, number):
-    if when:
-        raise Refused(number)
 
 
 def walk(header):
@@ -69,6 +61,14 @@ def version(image):
     return int.from_bytes(view(image, VERSION), "little")
 
 
+def version_or_none(image):
+    """None where the header fails one of the checks 10 to 16."""
+    try:
+        return version(image)
+    except Refused:
+        return None
+
+
 def verify(image, signature_ok):
     size = check(image)
     at, length = find(image, DIGEST)
@@ -77,40 +77,10 @@ def verify(image, signature_ok):
     refuse(not signature_ok, 18)
 
 
-def tag(kind, content):
-    return struct.pack("<HH", kind, len(content)) + content
-
-
-def whole_tags(run):
-    """The types in a run of tags without padding; None where the last tag is cut."""
-    kinds = []
-    while run:
-        if len(run) < 4 or len(run) < 4 + int.from_bytes(run[2:4], "little"):
-            return None
-        kinds.append(int.from_bytes(run[:2], "little"))
-        run = run[4 + int.from_bytes(run[2:4], "little"):]
-    return kinds
-
-
-def unsigned(fields, firmware, custom, hint):
-    """Numbers 12, 26, 27. Gives the header up to its digest tag."""
-    refuse(not 1 <= len(firmware) <= 4294967039, 12)
-    refuse(len(custom) > 82, 26)
-    kinds = whole_tags(custom)
-    refuse(kinds is None, 27)
-    refuse(any(k == 0 or k % 256 == 0xFF or k == HINT or k in MANDATORY for k in kinds), 27)
-    number, timestamp, firmware_type = fields
-    return (MARK + struct.pack("<I", len(firmware)) + tag(VERSION, struct.pack("<I", number))
-            + tag(TIMESTAMP, struct.pack("<Q", timestamp)) + tag(FIRMWARE_TYPE, struct.pack("<H", firmware_type))
-            + custom + tag(HINT, hint))
-
-
-def digest_to_sign(fields, firmware, custom, hint):
-    return hashlib.sha256(unsigned(fields, firmware, custom, hint) + firmware).digest()
-
-
-def write(buffer_length, fields, firmware, custom, hint, signature):
-    refuse(buffer_length != 256, 10)
-    front = unsigned(fields, firmware, custom, hint)
-    digest = digest_to_sign(fields, firmware, custom, hint)
-    return (front + tag(DIGEST, digest) + tag(SIGNATURE, signature)).ljust(256, b"\xff")
+def verdict(image, signature_ok):
+    """The number that the image is refused with; 0 where it passes."""
+    try:
+        verify(image, signature_ok)
+    except Refused as refused:
+        return refused.number
+    return 0

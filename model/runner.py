@@ -1,13 +1,13 @@
-"""Document 01's bounded run with its record of finished steps, and its simulator program: an implementation that owes
-the library nothing. The record is a count of erases, copies, bytes and marks. The checker's answers are a truth value
-for each slot."""
-import struct
+"""Document 01's bounded run, with its record of finished steps: a count of erases, copies, bytes and marks. The
+checker's answers are a truth value for each slot."""
 from typing import NamedTuple
 
-from flash_rules import BOOT, UPDATE, UPDATED, Geometry, Refused, check, flags, refuse, sound_with
-from loader_rules import UPDATING, Answer, carried_out, next_step, version
+from model.flash import UPDATE, carried_out, check
+from model.loader import Answer, next_step
+from model.refusals import Refused, refuse
+from model.slots import UPDATED, UPDATING, flags, sound_with
 
-MOST_STEPS, MOST_COUNT, MOST_FLASH = 4096, 4_294_963_199, 65_536
+MOST_STEPS, MOST_COUNT = 4096, 4_294_963_199
 # The order of the counters, by a step's letter.
 LETTERS = "ECBM"
 
@@ -33,7 +33,7 @@ def answered(call, *arguments):
     try:
         return call(*arguments)
     except Refused as refused:
-        return Answer("REFUSE", number=refused.args[0])
+        return Answer("REFUSE", number=refused.number)
 
 
 def check_run(geometry, number, counts):
@@ -57,29 +57,3 @@ def run(geometry, flash, answers, number, counts):
             return Outcome(Answer("BOOT"), flash, counts, steps)
         if all_updated(geometry, flash) and not all_updated(geometry, before):
             answers = answers[::-1]
-
-
-def step_text(step):
-    return " ".join(map(str, step))
-
-
-def answer_text(answer):
-    """As the program runner_cases prints it."""
-    if answer.step is None:
-        return f"{answer.kind} {answer.number}"
-    return ("LAST " if answer.kind == "LAST" else "") + step_text(answer.step)
-
-
-def simulate(data):
-    """What the simulator program prints for its standard input."""
-    if len(data) < 24 or len(data) - 24 > MOST_FLASH:
-        return "REFUSE 5\n"
-    *numbers, signed = struct.unpack("<6I", data[:24])
-    flash = data[24:]
-    geometry = Geometry(*numbers, len(flash))
-    outcome = run(geometry, flash, (signed & 1, signed & 2), MOST_STEPS, (0, 0, 0, 0))
-    kind, number = outcome.answer.kind, outcome.answer.number
-    assert kind in ("BOOT", "REFUSE"), "4096 steps are enough"
-    if kind == "BOOT":
-        number = version(geometry, outcome.flash, BOOT)
-    return "".join(f"{line}\n" for line in [*map(step_text, outcome.steps), f"{kind} {number}"])
