@@ -8,7 +8,6 @@ import sys
 import time
 from pathlib import Path
 
-sys.dont_write_bytecode = True
 import commands
 import power_loss
 from valve import Valve
