@@ -5,15 +5,11 @@ from model.board import record, signed
 from model.flash import BOOT, SECTOR_SIZES, UPDATE, Geometry
 from model.runner import LETTERS, run
 from model.slots import flag_at
-from tests.vectors import (loader_boots, loader_calls, loader_geometries, loader_returns, loader_stories, loader_swaps,
-                           loader_trailers, loader_updates, runner_answers, runner_ends, runner_refusals,
-                           runner_updates)
+from tests.vectors import loader, runner
 from tests.vectors.flash_case import laid_over
 from tests.vectors.loader_case import BOTH, U70, G, filled, sound
 from tests.vectors.loader_images import BROKEN, ONE, TWO, written
 
-TOPICS = [loader_geometries, loader_boots, loader_updates, loader_swaps, loader_trailers, loader_returns, loader_calls,
-          loader_stories, runner_refusals, runner_updates, runner_answers, runner_ends]
 MOST = 65_536
 
 
@@ -35,7 +31,7 @@ def edges(random):
 def stored():
     """Each flash of the stored cases."""
     return [record(case.geometry, case.answers) + case.flash
-            for topic in TOPICS for case in topic.CASES if case.flash is not None]
+            for case in (*loader.CASES, *runner.CASES) if case.flash is not None]
 
 
 def geometry(random):

@@ -7,12 +7,13 @@ from pathlib import Path
 
 if __name__ == "__main__":
     sys.path.insert(0, str(Path(__file__).resolve().parents[2]))
-from model.board import record
+from model.board import Board
 from model.flash import carried_out
 from tests.vectors.flash_case import laid_over
 from tests.vectors.loader_case import BOTH, U70, G, filled
 from tests.vectors.loader_images import ONE, TWO
 from tests.vectors.loader_stories import EXCHANGE
+from tests.vectors.stored import print_file
 
 STEPS = f"{EXCHANGE}; B 763 16; M 764; B 1531 48".split("; ")
 CUT = "C 1536 0"
@@ -27,18 +28,11 @@ def after(flash, steps):
 
 STAGED = filled(ONE, TWO, U70)
 BEFORE_CUT = after(STAGED, STEPS[:STEPS.index(CUT)])
-BOARDS = {
+FLASHES = {
     "update": STAGED,
     "return": after(STAGED, STEPS),
     "interrupted": laid_over(BEFORE_CUT, [(G.boot, TWO[:G.z // 2])]),
 }
 
-
-def main():
-    if len(sys.argv) != 2 or sys.argv[1] not in BOARDS:
-        sys.exit(f"usage: {sys.argv[0]} {' | '.join(BOARDS)}")
-    sys.stdout.buffer.write(record(G, BOTH) + BOARDS[sys.argv[1]])
-
-
 if __name__ == "__main__":
-    main()
+    print_file({name: Board(G, flash, BOTH).data() for name, flash in FLASHES.items()})

@@ -7,10 +7,11 @@ from pathlib import Path
 
 if __name__ == "__main__":
     sys.path.insert(0, str(Path(__file__).resolve().parents[2]))
-from model.board import record
+from model.board import Board
 from model.simulator import simulate
 from tests.vectors.loader_case import BOTH, U70, G, filled
 from tests.vectors.loader_images import ONE, TWO
+from tests.vectors.stored import print_file
 
 # As document 01 has it, one item a line.
 OUTPUT = """\
@@ -36,18 +37,13 @@ M 764
 B 1531 48
 BOOT 2
 """
-INPUT = record(G, BOTH) + filled(ONE, TWO, U70)
+INPUT = Board(G, filled(ONE, TWO, U70), BOTH).data()
 
 
 def main():
     said = simulate(INPUT)
     assert said == OUTPUT, said
-    if sys.argv[1:] == ["stdin"]:
-        sys.stdout.buffer.write(INPUT)
-    elif sys.argv[1:] == ["stdout"]:
-        sys.stdout.write(OUTPUT)
-    else:
-        sys.exit(f"usage: {sys.argv[0]} stdin | stdout")
+    print_file({"stdin": INPUT, "stdout": OUTPUT.encode("ascii")})
 
 
 if __name__ == "__main__":
