@@ -41,6 +41,14 @@ def check(geometry):
     refuse(any(a.start < b.stop and b.start < a.stop for a, b in combinations(areas, 2)), 4)
 
 
+def outside(geometry, flash):
+    """The bytes outside the three areas."""
+    kept, start = b"", 0
+    for area in sorted(geometry.areas(), key=lambda area: area.start):
+        kept, start = kept + flash[start:area.start], area.stop
+    return kept + flash[start:]
+
+
 def accepts(geometry, op, at, to, value):
     sectors, trailers = geometry.sectors(), [geometry.trailer(BOOT), geometry.trailer(UPDATE)]
     if op == ERASE:

@@ -49,13 +49,17 @@ def renewal(geometry, flash, slot, state):
     return "E", trailer.start
 
 
+def updated_sectors(geometry, flash):
+    """How many there are, from the first one on."""
+    return len(list(takewhile(lambda flag: flag == UPDATED, flags(geometry, flash))))
+
+
 def progress(geometry, flash):
     check(geometry)
-    all_flags = flags(geometry, flash)
-    updated = len(list(takewhile(lambda flag: flag == UPDATED, all_flags)))
+    updated = updated_sectors(geometry, flash)
     if updated == geometry.n:
         return 3 * geometry.n
-    first, *others = all_flags[updated:]
+    first, *others = flags(geometry, flash)[updated:]
     refuse(first not in (NEW, SWAPPING, BACKUP) or any(flag != NEW for flag in others), 20)
     return 3 * updated + (NEW, SWAPPING, BACKUP).index(first)
 

@@ -12,7 +12,7 @@ from picture import svg, text
 from picture.findings import findings_of
 from picture.images import images_of
 from picture.power_ups import NoSuchStep, history_of, simulated
-from picture.words import REASONS
+from picture.words import refusal_text
 
 # Of the geometry and of the input's length: there is nothing to draw.
 BEFORE_ALL = [("REFUSE", number) for number in range(1, 6)]
@@ -40,7 +40,7 @@ def drawn(given, data):
     """The lines to print."""
     _, end = simulated(data)
     if end in BEFORE_ALL:
-        return [f"refused: {REASONS[end[1]]}"]
+        return [refusal_text(end[1])]
     history = history_of(board_of(data), given.cut, given.boots)
     images = images_of(history.found.geometry, history.found.flash)
     findings = findings_of(history, images)

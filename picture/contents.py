@@ -1,9 +1,8 @@
 """What the sectors, trailers and flags of a flash hold, by comparing them with the two images."""
-from itertools import takewhile
 from typing import NamedTuple
 
 from model.flash import BOOT, CLOSING, UPDATE
-from model.slots import UPDATED, flags
+from model.slots import flags, updated_sectors
 from picture.images import area_sectors
 from picture.places import SWAP
 from picture.words import state_text
@@ -59,7 +58,7 @@ def content_of(data, images, i):
 def swap_content(g, flash, images):
     """SWAP may hold any sector: the one that the flags have come to is tried first, then those near it."""
     [data] = area_sectors(g, flash, SWAP)
-    current = len(list(takewhile(lambda flag: flag == UPDATED, flags(g, flash))))
+    current = updated_sectors(g, flash)
     nearest = sorted(range(g.n), key=lambda i: (abs(i - current), i))
     found = [content_of(data, images, i) for i in nearest]
     clearest = {FROM_BOOT, FROM_UPDATE, SAME}

@@ -7,11 +7,12 @@ from pathlib import Path
 if __name__ == "__main__":
     sys.path.insert(0, str(Path(__file__).resolve().parents[1]))
 from model.board import RECORD, board_of, signed
-from model.flash import BOOT, CLOSING, UPDATE, check
+from model.flash import BOOT, UPDATE, check
 from model.loader import verdict, version
 from model.refusals import Refused
 from model.slots import SPENT, UPDATING, flags, state_at
-from picture.words import FLAGS, NAMES, REASONS, state_text, step_text
+from picture.contents import trailer_of
+from picture.words import FLAGS, NAMES, REASONS, refusal_text, step_text
 
 
 def board_or_none(data):
@@ -33,11 +34,11 @@ def image_text(g, flash, slot):
 
 def trailer_text(g, flash, slot):
     """The flags count only in an UPDATE that is sound with 70."""
-    state, *closing = flash[state_at(g, slot):g.trailer(slot).stop]
-    if bytes(closing) != CLOSING:
+    trailer = trailer_of(g, flash, slot)
+    if not trailer.sound:
         return "no sound trailer"
-    text = f"trailer {state_text(state)}"
-    if (slot, state) != (UPDATE, UPDATING):
+    text = f"trailer {trailer.text()}"
+    if (slot, trailer.state) != (UPDATE, UPDATING):
         return text
     return f"{text}, sectors {', '.join(FLAGS.get(flag, 'unknown') for flag in flags(g, flash))}"
 
@@ -52,7 +53,7 @@ def describe(board):
 
 def end_text(g, word, number, last):
     if word == "REFUSE":
-        return f"refused: {REASONS[number]}"
+        return refusal_text(number)
     if last == ["B", state_at(g, UPDATE), SPENT]:
         return f"boots version {number} on trial: not confirmed, it is exchanged back at the next start"
     return f"boots version {number}"

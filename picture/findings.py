@@ -1,10 +1,10 @@
 """What is found in the end: each sentence from the flashes and from what the simulator printed, none assumed."""
 from model.board import signed
-from model.flash import BOOT, UPDATE
+from model.flash import BOOT, UPDATE, outside
 from model.loader import verdict, version
 from model.slots import SUCCESS, TESTING, sound_with
 from picture.images import area_sectors
-from picture.words import NAMES, REASONS, STATES
+from picture.words import NAMES, REASONS, STATES, refusal_text
 
 
 def counted(number, word):
@@ -15,7 +15,7 @@ def end_text(g, power_up):
     """How a power-up ended that was not cut."""
     word, number = power_up.end
     if word == "REFUSE":
-        return f"refused: {REASONS[number]}"
+        return refusal_text(number)
     states = [STATES[state] for state in (TESTING, SUCCESS) if sound_with(g, power_up.flash, BOOT, state)]
     return " ".join([f"boots version {number}", *states])
 
@@ -28,14 +28,6 @@ def slot_text(board, images, slot):
     origins = [NAMES[i] for i, image in enumerate(images) if image.sectors == area_sectors(g, flash, slot)]
     came = f"every byte from {origins[0] if len(origins) == 1 else 'either'}" if origins else "other bytes than found"
     return f"{NAMES[slot]}: {text}; {came}"
-
-
-def outside(g, flash):
-    """The bytes outside the three areas."""
-    kept, start = b"", 0
-    for area in sorted(g.areas(), key=lambda area: area.start):
-        kept, start = kept + flash[start:area.start], area.stop
-    return kept + flash[start:]
 
 
 def outside_text(g, flashes):

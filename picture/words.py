@@ -1,12 +1,12 @@
 """Plain words for a board's places, trailers, flags, steps and refusals."""
 from model.flash import BOOT, UPDATE
-from model.slots import state_at
+from model.slots import BACKUP, NEW, SPENT, SUCCESS, SWAPPING, TESTING, UPDATED, UPDATING, state_at
 from picture.places import SWAP, flag_written, sector_of
 
 NAMES = "BOOT", "UPDATE", "SWAP"
-STATES = {0xFF: "new", 0x70: "updating", 0x10: "on trial", 0x00: "confirmed", 0x30: "spent"}
-FLAGS = {0xF: "new", 0x7: "swapping", 0x3: "backup", 0x0: "updated"}
-SAFE = {0x7: "UPDATE's is in SWAP", 0x3: "BOOT's is in UPDATE", 0x0: "UPDATE's is in BOOT"}
+STATES = {0xFF: "new", UPDATING: "updating", TESTING: "on trial", SUCCESS: "confirmed", SPENT: "spent"}
+FLAGS = {NEW: "new", SWAPPING: "swapping", BACKUP: "backup", UPDATED: "updated"}
+SAFE = {SWAPPING: "UPDATE's is in SWAP", BACKUP: "BOOT's is in UPDATE", UPDATED: "UPDATE's is in BOOT"}
 REASONS = {
     1: "a sector size that is not listed", 2: "not 1 to 64 sectors", 3: "an offset unaligned, or an area past the end",
     4: "areas overlap", 5: "under 24 bytes of input, or over 65,536 of flash", 11: "the image mark is wrong",
@@ -14,6 +14,10 @@ REASONS = {
     15: "a mandatory tag is repeated", 16: "a mandatory tag has the wrong length", 17: "the digest differs",
     18: "the signature checker says no", 20: "the flags are ill-formed",
 }
+
+
+def refusal_text(number):
+    return f"refused: {REASONS[number]}"
 
 
 def state_text(state):

@@ -6,7 +6,7 @@ from pathlib import Path
 from model.flash import BOOT, UPDATE
 from model.refusals import Refused
 from model.simulator import simulate
-from model.slots import image, progress, sound_with
+from model.slots import UPDATING, image, progress, sound_with
 from picture.__main__ import main
 from tests.picture.closing import check_closing
 from tests.picture.drawn import read_svg, read_text
@@ -27,7 +27,7 @@ def printed(*words):
 def images_found(g, flash):
     """The slots' images; None in mid-swap, where they need not be whole."""
     with contextlib.suppress(Refused):
-        if sound_with(g, flash, UPDATE, 0x70) and progress(g, flash) > 0:
+        if sound_with(g, flash, UPDATE, UPDATING) and progress(g, flash) > 0:
             return None
     return [image(g, flash, slot) for slot in (BOOT, UPDATE)]
 

@@ -6,7 +6,7 @@ from model.board import Board, board_of
 from model.flash import BOOT, CLOSING, UPDATE, Geometry
 from model.refusals import Refused
 from model.simulator import simulate
-from model.slots import progress, sound_with
+from model.slots import UPDATING, progress, sound_with
 
 
 class Row(NamedTuple):
@@ -62,7 +62,7 @@ def cut_off(g, flash, step):
 def ended(g, flash):
     """Whether all flags are 0 in mid-update."""
     try:
-        return sound_with(g, flash, UPDATE, 0x70) and progress(g, flash) == 3 * g.n
+        return sound_with(g, flash, UPDATE, UPDATING) and progress(g, flash) == 3 * g.n
     except Refused:
         return False
 

@@ -3,7 +3,7 @@ conclusions have the names that they have in crates/power_loss/specs/Demand.antt
 from typing import NamedTuple
 
 from model import loader, runner
-from model.flash import BOOT, CLOSING, UPDATE, Geometry, carried_out
+from model.flash import BOOT, CLOSING, UPDATE, Geometry, carried_out, outside
 from model.requests import trigger
 from model.runner import MOST_STEPS
 from model.slots import NEW, TESTING, UPDATED, UPDATING, flags, image, sound_with
@@ -93,11 +93,6 @@ class Powers:
         self.flash = self.flash[:start] + cut.left + self.flash[start + g.z:]
         self.begun += 1
         return answer.kind == "LAST" and self.flash == done
-
-
-def outside(geometry, flash):
-    """The bytes outside the three areas."""
-    return [byte for i, byte in enumerate(flash) if not any(i in area for area in geometry.areas())]
 
 
 def images(geometry, flash):
