@@ -3,18 +3,16 @@
 and for random ones; files that cannot be read; the stored run of the crate; and the options of ./frondicare pack. The
 seed is printed, and SEED=.. repeats a run.
 Usage: pack.py COMMAND"""
-import os
-import random
 import subprocess
 import sys
 import tempfile
-import time
 from collections import Counter
 from dataclasses import replace
 from pathlib import Path
 
 if __name__ == "__main__":
     sys.path.insert(0, str(Path(__file__).resolve().parents[2]))
+from tests.chance import seeded
 from tests.command.pack_inputs import BITS, Inputs, drawn, edges, expected
 
 ROOT = Path(__file__).parent.parent.parent
@@ -122,9 +120,7 @@ def check_image(command, folder):
 
 def main():
     command = Path(sys.argv[1]).resolve()
-    seed = int(os.environ.get("SEED", time.time_ns()))
-    print(f"packing command: SEED={seed}")
-    chance = random.Random(seed)
+    chance = seeded("packing command")
     seen = Counter()
     with tempfile.TemporaryDirectory(prefix="pack") as name:
         folder = Path(name)

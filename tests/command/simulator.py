@@ -2,18 +2,16 @@
 """The simulator command against the reference model, model/: the whole output, for inputs at the edges of what it
 takes, for the stored cases' boards, and for random boards. The seed is printed, and SEED=.. repeats a run.
 Usage: simulator.py COMMAND"""
-import os
-import random
 import subprocess
 import sys
 import tempfile
-import time
 from collections import Counter
 from pathlib import Path
 
 if __name__ == "__main__":
     sys.path.insert(0, str(Path(__file__).resolve().parents[2]))
 from model.simulator import simulate
+from tests.chance import seeded
 from tests.command.simulator_inputs import board, edges, stored
 
 BOARDS = 1000
@@ -60,9 +58,7 @@ def check(seen):
 
 def main():
     [command] = sys.argv[1:]
-    seed = int(os.environ.get("SEED", time.time_ns()))
-    print(f"simulator command: SEED={seed}")
-    chance = random.Random(seed)
+    chance = seeded("simulator command")
     inputs = [*[("edge", data) for data in edges(chance)], *[("stored", data) for data in stored()],
               *[("board", board(chance)) for _ in range(BOARDS)]]
     seen = Counter()

@@ -57,15 +57,20 @@ def disturbed(random, where):
     )))
 
 
+def sectors(random, where):
+    """As many as a slot's image has, often of FF or of one value."""
+    return b"".join(random.choice((random.randbytes(where.z), bytes([random.choice((0, 0x11, 0xFF))]) * where.z))
+                    for _ in range(where.n))
+
+
 def image(random, where):
-    """Of any length, often with sectors of FF or of one value; at times it doesn't pass."""
+    """Of any length; at times it doesn't pass."""
     room = where.z * where.n
     if room == 256 or random.random() < 0.15:
         return random.choice(list(BROKEN.values()))[:room]
     size = random.choice((1, room - 256, random.randint(1, room - 256)))
-    firmware = b"".join(random.choice((random.randbytes(where.z), bytes([random.choice((0, 0x11, 0xFF))]) * where.z))
-                        for _ in range(where.n))
-    return written(random.randint(0, 3), firmware[:size])
+    firmware = sectors(random, where)[:size]
+    return written(random.randint(0, 3), firmware)
 
 
 def trailers(random, where):

@@ -4,7 +4,7 @@ from typing import NamedTuple
 from model.board import record
 from model.flash import UPDATE
 from model.slots import flag_at
-from tests.command.simulator_inputs import geometry
+from tests.command.simulator_inputs import geometry, sectors
 from tests.picture.history import expected
 from tests.vectors.loader_case import BOTH, filled, sound
 from tests.vectors.loader_images import written
@@ -18,11 +18,9 @@ class Update(NamedTuple):
 
 
 def firmware(random, where):
-    """At most as long as the slot, often with sectors of FF or of one value."""
-    pieces = [random.choice((random.randbytes(where.z), bytes([random.choice((0, 0x11, 0xFF))]) * where.z))
-              for _ in range(where.n)]
+    """At most as long as the slot."""
     room = where.n * where.z - 256
-    return b"".join(pieces)[:random.choice((room, random.randint(1, room)))]
+    return sectors(random, where)[:random.choice((room, random.randint(1, room)))]
 
 
 def patches(random, where):
