@@ -26,6 +26,7 @@ def walk(header):
 
 
 def find(header, kind):
+    """Lookup: the place and the length of the first content of this type."""
     refuse(len(header) < 256, 10)
     for found, at, length in walk(header):
         if found == kind:
@@ -34,6 +35,7 @@ def find(header, kind):
 
 
 def view(header, kind):
+    """Empty where the lookup is refused."""
     try:
         at, length = find(header, kind)
     except Refused:

@@ -10,7 +10,8 @@ VERSION_NOT_GREATER = 19
 
 
 class Answer(NamedTuple):
-    """STEP and LAST have a step, BOOT has the number that UPDATE was passed over for, FINISHED has nothing."""
+    """STEP and LAST have a step, BOOT has the number that UPDATE was passed over for, FINISHED has nothing; a run's
+    REFUSE has its number."""
     kind: str
     step: tuple = None
     number: int = 0
@@ -22,6 +23,7 @@ def verdict(geometry, flash, answers, slot):
 
 
 def version(geometry, flash, slot):
+    """None where the slot's header fails one of the checks 11 to 16."""
     return header.version_or_none(image(geometry, flash, slot))
 
 

@@ -15,6 +15,7 @@ def state_at(geometry, slot):
 
 
 def state_byte(geometry, slot, state):
+    """The Byte that writes it."""
     return "B", state_at(geometry, slot), state
 
 
