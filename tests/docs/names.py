@@ -1,0 +1,84 @@
+"""What the documents name, the paths, edits, definitions and functions, and what of it is in the tree."""
+import re
+import subprocess
+from fnmatch import fnmatch
+from pathlib import Path
+
+ROOT = Path(__file__).resolve().parents[2]
+ARCHITECTURE = "docs/ARCHITECTURE.md"
+DOCUMENTS = ["README.md", "CONTRIBUTING.md", ARCHITECTURE, "docs/RULES.md", "tests/README.md", "bench/RESULTS.md"]
+QUOTED = re.compile(r"`([^`\n]+)`")
+PATH = re.compile(r"(?:[\w.*-]+/)+[\w.*-]*|[\w*-]+\.(?:md|txt|py|rt|rs|c|h|sh|svg|antt|diff)")
+EDITS = re.compile(r"\bedits? (`\w+`(?:, `\w+`)*)")
+WORD = re.compile(r"[\w'-]+")
+BUILT = ("target/", "./")  # what is not tracked, and a command
+SOURCES = ["crates/*.rt", "crates/*.antt", "include/frondicare.h", "tests/rust/tests/*.rs", "frondicare", "crates.txt"]
+
+
+def read(path):
+    return (ROOT / path).read_text(encoding="utf-8")
+
+
+def tracked():
+    command = ["git", "ls-files", "--cached", "--others", "--exclude-standard"]
+    names = subprocess.run(command, cwd=ROOT, check=True, capture_output=True, text=True).stdout.splitlines()
+    return [name for name in names if (ROOT / name).is_file()]
+
+
+FILES = tracked()
+PLACES = set(FILES) | {str(parent) for name in FILES for parent in Path(name).parents}
+
+
+def is_there(path, document):
+    """From the root; in ARCHITECTURE, which speaks of crates, also from a crate's folders and without an ending."""
+    starts = ["", "crates/", *(f"crates/*/{part}" for part in ("", "src/", "proofs/", "specs/"))]
+    path = path.rstrip("/").replace("NAME", "*")
+    wanted = [path] if document != ARCHITECTURE else [s + path + end for s in starts for end in ("", ".antt")]
+    return any(fnmatch(place, pattern) for pattern in wanted for place in PLACES)
+
+
+def missing_paths():
+    tops = {place.split("/")[0] for place in PLACES if "/" in place}
+    for document in filter(PLACES.__contains__, DOCUMENTS):
+        text = read(document)
+        named = [word for word in QUOTED.findall(text) if PATH.fullmatch(word)]
+        named += [word.rstrip(".") for word in PATH.findall(text) if word.split("/")[0] in tops]
+        links = re.findall(r"\]\(([^)#]+)\)", text)
+        named += [str((ROOT / document).parent.joinpath(link).resolve().relative_to(ROOT)) for link in links]
+        for path in sorted(set(named)):
+            if not path.startswith(BUILT) and not is_there(path, document):
+                yield f"{document}: {path} does not exist"
+
+
+def in_column(title):
+    """What the cells below a heading quote, in the tables of ARCHITECTURE."""
+    place, found = None, set()
+    for line in read(ARCHITECTURE).splitlines():
+        cells = [cell.strip() for cell in line.strip("|").split("|")] if line.startswith("|") else []
+        place = None if not cells else cells.index(title) if title in cells else place
+        found.update(QUOTED.findall(cells[place]) if place is not None else [])
+    return found
+
+
+def edits():
+    return in_column("Edit").union(*map(QUOTED.findall, EDITS.findall(read(ARCHITECTURE))))
+
+
+def missing_edits():
+    if not edits():
+        yield f"{ARCHITECTURE} names no edit"
+    for name in sorted(edits() - {Path(name).stem for name in FILES if name.endswith(".edit")}):
+        yield f"{ARCHITECTURE}: no edit {name}"
+
+
+def missing_names():
+    """What ARCHITECTURE quotes is a word of the sources, a name in crates/, or, of several words, a part of them."""
+    text = " ".join(" ".join(read(name) for name in FILES if any(fnmatch(name, source) for source in SOURCES)).split())
+    words = {part for name in FILES if name.startswith("crates/") for part in Path(name).with_suffix("").parts}
+    words = words.union(WORD.findall(text), edits(), in_column("wrong loader"))
+    for quoted in QUOTED.findall(read(ARCHITECTURE)):
+        if PATH.fullmatch(quoted) or quoted.startswith(BUILT) or " " in quoted and quoted in text:
+            continue
+        for name in WORD.findall(f"frondicare{quoted}" if quoted.startswith("_") else quoted):
+            if " " in quoted or name not in words:
+                yield f"{ARCHITECTURE}: `{quoted}` is in no source"
