@@ -5,6 +5,7 @@ is the C header's."""
 import re
 import subprocess
 import sys
+from itertools import zip_longest
 from pathlib import Path
 
 if __name__ == "__main__":
@@ -44,8 +45,9 @@ def other_crates():
     if list(drawn) != list(wanted):
         yield f"{ARCHITECTURE}: groups {list(drawn)}, in crates.txt {list(wanted)}"
     for title, rows in wanted.items():
-        if drawn.get(title) != rows:
-            yield f"{ARCHITECTURE}, {title}: {drawn.get(title)}, in crates.txt {rows}"
+        for row, other in zip_longest(rows, drawn.get(title, [])):
+            if row != other:
+                yield f"{ARCHITECTURE}, {title}: {other}, in crates.txt {row}"
 
 
 def other_wrong_loaders():
@@ -57,7 +59,7 @@ def other_wrong_loaders():
 def other_picture():
     drawn = subprocess.run([sys.executable, "-B", ROOT / "tools/layers/draw.py"], capture_output=True, text=True)
     if drawn.returncode or drawn.stdout != read("docs/layers.svg"):
-        yield f"docs/layers.svg is not what tools/layers/draw.py draws {drawn.stderr.strip()}"
+        yield f"docs/layers.svg is not what tools/layers/draw.py draws. {drawn.stderr[-200:]}"
 
 
 def other_version():

@@ -11,8 +11,8 @@ QUOTED = re.compile(r"`([^`\n]+)`")
 PATH = re.compile(r"(?:[\w.*-]+/)+[\w.*-]*|[\w*-]+\.(?:md|txt|py|rt|rs|c|h|sh|svg|antt|diff)")
 EDITS = re.compile(r"\bedits? (`\w+`(?:, `\w+`)*)")
 WORD = re.compile(r"[\w'-]+")
-BUILT = ("target/", "./")  # what is not tracked, and a command
-SOURCES = ["crates/*.rt", "crates/*.antt", "include/frondicare.h", "tests/rust/tests/*.rs", "frondicare", "crates.txt"]
+BUILT = ("target/", "./", "rt ")  # what is not tracked, and commands
+SOURCES = ["crates/*.rt", "crates/*.antt", "*.edit", "include/frondicare.h", "tests/rust/tests/*.rs", "frondicare"]
 
 
 def read(path):
@@ -76,9 +76,9 @@ def missing_names():
     text = " ".join(" ".join(read(name) for name in FILES if any(fnmatch(name, source) for source in SOURCES)).split())
     words = {part for name in FILES if name.startswith("crates/") for part in Path(name).with_suffix("").parts}
     words = words.union(WORD.findall(text), edits(), in_column("wrong loader"))
-    for quoted in QUOTED.findall(read(ARCHITECTURE)):
-        if PATH.fullmatch(quoted) or quoted.startswith(BUILT) or " " in quoted and quoted in text:
+    for quoted in sorted(set(QUOTED.findall(read(ARCHITECTURE)))):
+        if PATH.fullmatch(quoted) or quoted.startswith(BUILT):
             continue
-        for name in WORD.findall(f"frondicare{quoted}" if quoted.startswith("_") else quoted):
-            if " " in quoted or name not in words:
-                yield f"{ARCHITECTURE}: `{quoted}` is in no source"
+        parts = WORD.findall(f"frondicare{quoted}" if quoted.startswith("_") else quoted)
+        if quoted not in text if " " in quoted else not words.issuperset(parts):
+            yield f"{ARCHITECTURE}: `{quoted}` is in no source"
