@@ -1,7 +1,7 @@
 #!/usr/bin/env python3
-"""Holds the documents to the tree: the paths, edits and names that they give are there, the table of crates is that of
-crates.txt, the picture of the layers is what its script draws, no line is too long, and the changelog's newest version
-is the C header's."""
+"""Holds the documents to the tree: the paths, headings, edits and names that they give are there, the table of crates
+is that of crates.txt, the picture of the layers is what its script draws, no line is too long, and the changelog's
+newest version is the C header's."""
 import re
 import subprocess
 import sys
@@ -70,8 +70,8 @@ def other_version():
 
 
 def main():
-    checks = [names.missing_paths, names.missing_edits, names.missing_names, long_lines, other_crates,
-              other_wrong_loaders, other_picture, other_version]
+    checks = [names.missing_paths, names.missing_headings, names.missing_edits, names.missing_names, long_lines,
+              other_crates, other_wrong_loaders, other_picture, other_version]
     mistakes = [mistake for check in checks for mistake in check()]
     print(*mistakes, sep="\n", end="\n" if mistakes else "")
     print(f"documents: {len(checks)} checks, {len(mistakes)} mistakes")

@@ -50,6 +50,15 @@ def missing_paths():
                 yield f"{document}: {path} does not exist"
 
 
+def missing_headings():
+    """A link to a heading of the same document, as GitHub names it."""
+    for document in filter(PLACES.__contains__, DOCUMENTS):
+        headings = re.findall(r"^#+ (.*)$", read(document), re.MULTILINE)
+        there = {re.sub(r"[^\w -]", "", heading.lower()).replace(" ", "-") for heading in headings}
+        for link in sorted(set(re.findall(r"\]\(#([^)]+)\)", read(document))) - there):
+            yield f"{document}: no heading #{link}"
+
+
 def in_column(title):
     """What the cells below a heading quote, in the tables of ARCHITECTURE."""
     place, found = None, set()
