@@ -3,6 +3,7 @@ import re
 import sys
 
 from crates import ROOT
+from shapes import path, rect, text
 
 # In columns from left to right: those of a column stand under each other.
 READ = [
@@ -24,7 +25,7 @@ def check_names():
             sys.exit(f"tools/layers/way.py: no {pattern} in crates/{crate}/src")
 
 
-def way(rect, text, path, top):
+def way(top):
     """From left to right what is read and decided, from right to left what is done."""
     check_names()
     wide, tall, step, middle = 138, 54, 62, top + 128
