@@ -58,3 +58,4 @@ def way(top):
     yield box(474, low, *DONE[0]) + path("back", f"M474 {low + 27}H{312 + wide + 1}")
     yield box(312, low, *DONE[1]) + path("back", f"M312 {low + 27}H16V{middle - 31}H27")
     yield text("note", 110, low + 20, "the flash, as it is now, is read again")
+    yield text("note", 110, low + 42, "after a last step: boot")
