@@ -12,7 +12,7 @@ fn damage(random: &mut Random, run: &mut Vec<u8>) {
         3 if run.len() > 1 => run[..2].copy_from_slice(&random.one_of(&NAMED).to_le_bytes()),
         4 if run.len() > 1 => run[..2].copy_from_slice(&random.one_of(&SPECIAL_TYPES).to_le_bytes()),
         _ if run.len() > 3 => run[2] ^= 1 << random.up_to(7),
-        _ => run.push(random.next() as u8),
+        _ => run.push(random.number() as u8),
     }
 }
 

@@ -5,7 +5,7 @@ use crate::random::Random;
 
 /// Another size: none, one beside the right one, or one that wraps when 256 is added in 32 bits.
 fn change_size(random: &mut Random, image: &mut [u8]) {
-    let (size, any) = ((image.len() - SIZE) as u32, random.next() as u32);
+    let (size, any) = ((image.len() - SIZE) as u32, random.number() as u32);
     let other = random.one_of(&[0, 1, size - 1, size, size + 1, 0xffff_ff00, 0xffff_ffff, any]);
     image[4..8].copy_from_slice(&other.to_le_bytes());
 }

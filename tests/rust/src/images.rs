@@ -12,13 +12,13 @@ pub const SPECIAL_TYPES: [u16; 12] =
     [0x0000, 0x00ff, 0x01ff, 0x34ff, 0xffff, 0xff34, 0xff01, 0x0100, 0x0300, 0x0004, 0x0021, 0x0130];
 
 pub fn fields(random: &mut Random) -> Fields {
-    Fields { version: random.next() as u32, timestamp: random.next(), firmware_type: random.next() as u16 }
+    Fields { version: random.number() as u32, timestamp: random.number(), firmware_type: random.number() as u16 }
 }
 
 /// A type that a custom tag may have.
 fn free_type(random: &mut Random) -> u16 {
     loop {
-        let kind = if random.percent(30) { random.one_of(&SPECIAL_TYPES) } else { random.next() as u16 };
+        let kind = if random.percent(30) { random.one_of(&SPECIAL_TYPES) } else { random.number() as u16 };
         if kind != 0 && kind & 0xff != 0xff && !writer::NAMED.contains(&kind) {
             return kind;
         }

@@ -39,7 +39,7 @@ fn near(random: &mut Random, number: usize, sector_size: usize) -> usize {
         4 => number.wrapping_add(sector_size / 2),
         5 => below_top,
         6 => number.wrapping_add(1 << 32),
-        _ => random.next() as usize >> random.up_to(63),
+        _ => random.number() as usize >> random.up_to(63),
     }
 }
 
@@ -106,7 +106,7 @@ pub fn step(random: &mut Random, geometry: &Geometry) -> RawStep {
     let at = if random.percent(75) { at } else { near(random, at, sector_size) };
     let to = if random.percent(10) { at } else { sector(random, geometry) };
     let to = if random.percent(85) { to } else { near(random, to, sector_size) };
-    let value = if random.percent(90) { random.up_to(255) as u32 } else { random.next() as u32 };
+    let value = if random.percent(90) { random.up_to(255) as u32 } else { random.number() as u32 };
     RawStep { op, at, to, value }
 }
 

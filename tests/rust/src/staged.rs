@@ -19,7 +19,7 @@ fn relate(random: &mut Random, boot: &mut [u8], update: &mut [u8]) {
         1 => boot.fill(0xff),
         2 => update.fill(0xff),
         3 => boot.iter_mut().chain(update).for_each(|byte| *byte = 0xff),
-        4 => boot.fill(random.next() as u8),
+        4 => boot.fill(random.number() as u8),
         5 => {
             boot.copy_from_slice(update);
             boot[random.up_to(update.len() - 1)] ^= 1 << random.up_to(7);
@@ -54,7 +54,7 @@ fn fill_slots(random: &mut Random, areas: &Areas, flash: &mut [u8], bodies: [Vec
 
 /// Blank, its state alone, sound with another state than 10, nearly sound with 10, or any bytes.
 fn fill_boot_trailer(random: &mut Random, trailer: &mut [u8]) {
-    let (end, any) = (trailer.len(), random.next() as u8);
+    let (end, any) = (trailer.len(), random.number() as u8);
     if random.percent(60) {
         trailer.fill(0xff);
     }

@@ -49,7 +49,7 @@ fn lookups() {
     for _ in 0..30_000 {
         let image = images::any(&mut random);
         let custom = image.get(34..36).map_or(0, |bytes| u16::from_le_bytes([bytes[0], bytes[1]]));
-        for kind in writer::NAMED.into_iter().chain(SPECIAL_TYPES).chain([random.next() as u16, custom]) {
+        for kind in writer::NAMED.into_iter().chain(SPECIAL_TYPES).chain([random.number() as u16, custom]) {
             seen.add(same_lookup(&image, kind).number);
         }
     }
@@ -63,7 +63,7 @@ fn lookups_of_types_that_cannot_occur() {
     let mut seen = Seen::default();
     for _ in 0..30_000 {
         let image = images::any(&mut random);
-        let kind = if random.percent(50) { 0x0000 } else { random.next() as u16 | 0x00ff };
+        let kind = if random.percent(50) { 0x0000 } else { random.number() as u16 | 0x00ff };
         seen.add(same_lookup(&image, kind).number);
     }
     seen.each(500, &[10, 13, 25]);

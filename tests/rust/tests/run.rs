@@ -9,7 +9,7 @@ use frondicare_tests::seen::Seen;
 
 /// Mostly enough for a run to its end, or few; at times too large by one, by a bit, or by far.
 fn any_number(random: &mut Random) -> u32 {
-    let (few, some, any) = (random.up_to(40) as u32, random.up_to(4096) as u32, random.next() as u32);
+    let (few, some, any) = (random.up_to(40) as u32, random.up_to(4096) as u32, random.number() as u32);
     match random.up_to(19) {
         0..=6 => MOST_STEPS,
         7..=14 => random.one_of(&[0, 1, few, few]),
@@ -25,7 +25,7 @@ fn any_counts(random: &mut Random) -> Counts {
         return Counts::default();
     }
     let mut count = || {
-        let (some, any) = (random.up_to(MOST_COUNT as usize) as u32, random.next() as u32);
+        let (some, any) = (random.up_to(MOST_COUNT as usize) as u32, random.number() as u32);
         let over = random.one_of(&[MOST_COUNT + 1, any, u32::MAX]);
         random.one_of(&[0, 0, 0, 1, some, some, some, some, some, MOST_COUNT - 1, MOST_COUNT, MOST_COUNT, over])
     };

@@ -7,7 +7,7 @@ use crate::{images, layouts};
 
 /// Equal, neighbours, different in one bit, in the lowest or the highest byte, or any two.
 fn versions(random: &mut Random) -> [u32; 2] {
-    let any = random.next() as u32;
+    let any = random.number() as u32;
     let first = random.one_of(&[any, any, 0, 0, 1, 0xff, 0x100, 0x7fff_ffff, 0x8000_0000, u32::MAX]);
     let byte = random.up_to(255) as u32;
     let second = match random.up_to(5) {
@@ -16,7 +16,7 @@ fn versions(random: &mut Random) -> [u32; 2] {
         2 => first.wrapping_sub(1),
         3 => first ^ 1 << random.up_to(31),
         4 => first ^ byte << random.one_of(&[0, 24]),
-        _ => random.next() as u32,
+        _ => random.number() as u32,
     };
     if random.percent(50) {
         [first, second]

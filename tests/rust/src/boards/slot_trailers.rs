@@ -5,7 +5,7 @@ use crate::trailers::{flag_after, flag_place, sound_with, SPENT, SUCCESS, TESTIN
 
 /// Mostly the likely one.
 fn state(random: &mut Random, likely: u8, percent: usize) -> u8 {
-    let (any, near) = (random.next() as u8, likely ^ 1 << random.up_to(7));
+    let (any, near) = (random.number() as u8, likely ^ 1 << random.up_to(7));
     if random.percent(percent) {
         likely
     } else {
