@@ -12,7 +12,7 @@ enum { MOST_FLASH = 65536 };
 static uint8_t flash[MOST_FLASH];
 static size_t flash_len, size, count, boot, update, swap;
 
-static void fail(const char *what)
+static _Noreturn void fail(const char *what)
 {
     fprintf(stderr, "stage: %s\n", what);
     exit(1);

@@ -33,6 +33,8 @@ void carry_out(frondicare_answer step)
     case FRONDICARE_MARK:
         flash_program(step.at, closing, sizeof closing);
         break;
+    default: /* the library answers no other */
+        break;
     }
 }
 

@@ -43,7 +43,7 @@ void fail(const char *format, ...)
     exit(1);
 }
 
-static void trapped(int number, siginfo_t *info, void *context)
+static _Noreturn void trapped(int number, siginfo_t *info, void *context)
 {
     (void)context;
     say_call();
