@@ -1,5 +1,5 @@
-/* Frondicare's loader, callable from C. Link libfrondicare.a (rt staticlib frondicare); examples/valve/ is a
- * whole loader over it.
+/* Frondicare's loader, callable from C. Link libfrondicare.a (tools/rt staticlib frondicare makes it);
+ * examples/valve/ is a whole loader over it.
  *
  * Every entry is proved against its contract in crates/frondicare/src. It ends, reads and writes only
  * what it was lent, and answers numbers of document 01 ("Numbers given back"), 0 for none. A

@@ -1,5 +1,5 @@
 /* How much stack a call takes: each runs on a stack of its own, painted first, and the paint that is gone is
- * counted. Fails where an answer is wrong or a call takes more than docs/ARCHITECTURE.md says. */
+ * counted. Fails where an answer is wrong or a call takes more than bench/RESULTS.md says. */
 #include "frondicare.h"
 #include <stdio.h>
 #include <string.h>

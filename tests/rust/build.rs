@@ -1,4 +1,4 @@
-//! Links the static library that `rt staticlib frondicare` wrote.
+//! Links the static library that `tools/rt staticlib frondicare` wrote.
 fn main() {
     let archive = std::path::Path::new(env!("CARGO_MANIFEST_DIR")).join("../../target/staticlib");
     println!("cargo:rustc-link-search=native={}", archive.display());
