@@ -6,7 +6,7 @@ import re
 FACT = re.compile("as printed, the two |computed as far as they go, the two |expected type |list the missing equation"
                   "|give a proof of that|`omega`: the goal does not follow|what the function ensures holds")
 # Declarations about a bound: an edit that fails there shows nothing of what the function answers.
-BOUND = re.compile("(add|sub|mul|div|cast|index|slice)-|.+-requires")
+BOUND = re.compile("(add|sub|mul|div|cast|index|slice|part)-|.+-requires")
 
 
 def first_refusal(log, crate):
