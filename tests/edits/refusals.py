@@ -1,10 +1,12 @@
 """What the prover's log says of an edit: where it is refused first, and whether a fact fails there."""
 import re
 
-# The prover's words where a fact fails: two sides that differ, what is left of a goal after rewriting, numbers that do
-# not follow, a contract that the prover cannot show by itself.
-FACT = re.compile("as printed, the two |computed as far as they go, the two |expected type |list the missing equation"
-                  "|give a proof of that|`omega`: the goal does not follow|what the function ensures holds")
+# The prover's words where a fact fails.
+FACT = re.compile(
+    "as printed, the two |computed as far as they go, the two |expected type "  # two sides that differ
+    "|give a proof of that|list the missing equation"  # what is left of a goal after rewriting
+    "|`omega`: the goal does not follow"  # numbers that do not follow
+    "|what the function ensures holds")  # a contract that the prover cannot show by itself
 # Declarations about a bound: an edit that fails there shows nothing of what the function answers.
 BOUND = re.compile("(add|sub|mul|div|cast|index|slice|part)-|.+-requires")
 
@@ -20,11 +22,19 @@ def first_refusal(log, crate):
     return (f"fn {alone[1]} {alone[2]}", why[1]) if alone and why else ("no declaration", "nothing but consequences")
 
 
-def judged(name, where, log, crate):
+def judged(name, text, log, crate):
     """Whether an edit was refused where it must be, for a fact, and the line that says so."""
+    if re.search("^logic=proved ", log, re.M):
+        return False, f"{name}: NOT REFUSED: it is proved"
     if not re.search("^logic=not-proved", log, re.M):
-        return False, f"FAILED {name}: NOT REFUSED"
+        error = re.search(r"error.*", log)
+        return False, f"{name}: FAILED: it did not reach the prover: {error[0] if error else 'there is no log of it'}"
     found, why = first_refusal(log, crate)
-    if found == where and FACT.match(why) and not BOUND.match(found.split()[-1]):
-        return True, f"{name}: refused in {found}"
-    return False, f"FAILED {name}: refused in {found}, where {where} is expected to fail for a fact: {why}"
+    if not FACT.match(why) or BOUND.match(found.split()[-1]):
+        return False, f"{name}: FAILED: refused in {found}, but not for a fact: {why}"
+    named = re.search(r"^refused in: (.+)$", text, re.M)
+    if not named:
+        return False, f"{name}: refused in {found}, for a fact. If that is what it shows, add: refused in: {found}"
+    if named[1] != found:
+        return False, f"{name}: FAILED: refused in {found}, not in {named[1]}: {why}"
+    return True, f"{name}: refused in {found}"
