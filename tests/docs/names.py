@@ -6,7 +6,9 @@ from pathlib import Path
 
 ROOT = Path(__file__).resolve().parents[2]
 ARCHITECTURE = "docs/ARCHITECTURE.md"
-DOCUMENTS = ["README.md", "CONTRIBUTING.md", ARCHITECTURE, "docs/RULES.md", "tests/README.md", "bench/RESULTS.md"]
+DOCUMENTS = ["README.md", "CONTRIBUTING.md", "CHANGELOG.md", ARCHITECTURE, "docs/RULES.md", "docs/DECISIONS.md",
+             "docs/changes/README.md", "tests/README.md", "bench/RESULTS.md"]
+OF_CRATES = [ARCHITECTURE, "docs/DECISIONS.md", "CHANGELOG.md"]
 QUOTED = re.compile(r"`([^`\n]+)`")
 PATH = re.compile(r"(?:[\w.*-]+/)+[\w.*-]*|[\w*-]+\.(?:md|txt|py|rt|rs|c|h|sh|svg|antt|diff)")
 EDITS = re.compile(r"\bedits? (`\w+`(?:, `\w+`)*)")
@@ -30,10 +32,10 @@ PLACES = set(FILES) | {str(parent) for name in FILES for parent in Path(name).pa
 
 
 def is_there(path, document):
-    """From the root; in ARCHITECTURE, which speaks of crates, also from a crate's folders and without an ending."""
+    """From the root; in documents that speak of crates, also from a crate's folders and without an ending."""
     starts = ["", "crates/", *(f"crates/*/{part}" for part in ("", "src/", "proofs/", "specs/"))]
     path = path.rstrip("/").replace("NAME", "*")
-    wanted = [path] if document != ARCHITECTURE else [s + path + end for s in starts for end in ("", ".antt")]
+    wanted = [path] if document not in OF_CRATES else [s + path + end for s in starts for end in ("", ".antt")]
     return any(fnmatch(place, pattern) for pattern in wanted for place in PLACES)
 
 
@@ -76,8 +78,12 @@ def edits():
 def missing_edits():
     if not edits():
         yield f"{ARCHITECTURE} names no edit"
-    for name in sorted(edits() - {Path(name).stem for name in FILES if name.endswith(".edit")}):
+    files = [name for name in FILES if name.endswith(".edit")]
+    for name in sorted(edits() - {Path(name).stem for name in files}):
         yield f"{ARCHITECTURE}: no edit {name}"
+    for name in files:
+        if "\nrefused in: " not in read(name):
+            yield f"{name} has no line 'refused in:'"
 
 
 def missing_names():
