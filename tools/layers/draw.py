@@ -57,7 +57,7 @@ def page(found, bottom):
     edges = resting({name: known for group in found.values() for name, known in group.items()})
     (first, loader), (second, claims), *programs = found.items()
     yield text("title", 20, 34, "The crates in layers")
-    yield text("note", 230, 34, "an arrow, or a name beside a program: rests on; what this one brings is not repeated")
+    yield text("note", 230, 34, "an arrow, or a name beside: rests on; what comes with another is left out")
     yield rect("band", 20, 50, 372, bottom - 50) + rect("band", 400, 50, 128, bottom - 50)
     yield text("name", 32, 69, first) + text("name", 409, 69, second)
     yield from layers(loader, claims, edges, 110)
