@@ -92,7 +92,7 @@ def check_example(rules):
 def main():
     rules = read("docs/RULES.md")
     wrong = [line for check in (check_sections, check_numbers, check_names, check_example) for line in check(rules)]
-    print(*wrong or ["docs/RULES.md: the sections, files, definitions and numbers that it names are there, and the example"], sep="\n")
+    print(*wrong or ["docs/RULES.md: what it names is there, and its numbers and example are right"], sep="\n")
     sys.exit(bool(wrong))
 
 
