@@ -1,5 +1,4 @@
-"""tools/lock.sh for a test in Python: nobody else proves in this clone until the test ends."""
-import fcntl
+"""tools/lock.sh for a test in Python: nobody else proves in this clone until the test, and what it called, ends."""
 import os
 import sys
 from pathlib import Path
@@ -8,13 +7,8 @@ ROOT = Path(__file__).resolve().parents[1]
 
 
 def lock():
-    """Waits for the lock, unless whoever called this test holds it; what the test calls goes on."""
-    if os.environ.get("FRONDICARE_LOCKED") == str(ROOT):
-        return
-    file = os.open(ROOT / "tools/lock.sh", os.O_RDONLY)
-    try:
-        fcntl.flock(file, fcntl.LOCK_EX | fcntl.LOCK_NB)
-    except BlockingIOError:
-        print("another command is proving here: waiting", file=sys.stderr)
-        fcntl.flock(file, fcntl.LOCK_EX)
-    os.environ["FRONDICARE_LOCKED"] = str(ROOT)
+    """Starts the test again under the lock, unless whoever called it holds the lock. What is called with
+    close_fds=False goes on holding it where the test is killed."""
+    if os.environ.get("FRONDICARE_LOCKED") != str(ROOT):
+        under = 'here=$(pwd) && cd "$0" && . tools/lock.sh && cd "$here" && exec "$@"'
+        os.execvp("sh", ["sh", "-c", under, str(ROOT), sys.executable, *sys.argv])

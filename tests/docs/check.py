@@ -24,6 +24,8 @@ def long_lines():
         for number, line in enumerate(read(document).splitlines(), 1):
             if len(line) > WIDEST and not line.startswith("|"):
                 yield f"{document}:{number}: {len(line)} columns"
+            if re.search("@[A-Z]+@", line):
+                yield f"{document}:{number}: a figure is to be filled in"
 
 
 def table_of_crates():

@@ -7,19 +7,31 @@ FACT = re.compile(
     "|give a proof of that|list the missing equation"  # what is left of a goal after rewriting
     "|`omega`: the goal does not follow"  # numbers that do not follow
     "|what the function ensures holds")  # a contract that the prover cannot show by itself
-# Declarations about a bound: an edit that fails there shows nothing of what the function answers.
-BOUND = re.compile("(add|sub|mul|div|cast|index|slice|part)-|.+-requires")
+# Declarations about a bound: an edit that fails there shows nothing of what the function answers. Where a function
+# promises nothing else, its edit says so: 'refused in: .., a bound'.
+BOUND = re.compile("(add|sub|mul|div|rem|cast|index|slice|part|shared-slice|array)-|.+-requires")
+
+
+def place_of(text):
+    """The place where an edit must be refused, or None."""
+    named = re.search(r"^refused in: (.+?)(, a bound)?$", text, re.M)
+    return named and named[1]
 
 
 def first_refusal(log, crate):
     """The declaration of the first error that is no consequence of another, and the prover's words; of a function that
     the prover does by itself, the function and what of it is not proved."""
-    for path, name, why in re.findall(r"^(\S+?):\d+:\d+: error: (?:`([^`]+)`: )?(.*)$", log, re.M):
+    for path, name, why in re.findall(r"^(.+?):\d+:\d+: error: (?:`([^`]+)`: )?(.*)$", log, re.M):
         if "was not admitted" not in why:
             return f"{path.removeprefix(f'{crate}/')} {name}", why
     alone = re.search(r"^fn \w+?::(\S+): no proof: .*`search` does not close `([^`]+)`", log, re.M)
-    why = re.search(r"^note: \S+: it is not proved that (.*)$", log, re.M)
+    why = re.search(r"^note: .+?:\d+:\d+: it is not proved that (.*)$", log, re.M)
     return (f"fn {alone[1]} {alone[2]}", why[1]) if alone and why else ("no declaration", "nothing but consequences")
+
+
+def refused_in(log, crate):
+    """Where a crate is refused, or None where it is not."""
+    return first_refusal(log, crate)[0] if re.search("^logic=not-proved", log, re.M) else None
 
 
 def judged(name, text, log, crate):
@@ -30,11 +42,14 @@ def judged(name, text, log, crate):
         error = re.search(r"error.*", log)
         return False, f"{name}: FAILED: it did not reach the prover: {error[0] if error else 'there is no log of it'}"
     found, why = first_refusal(log, crate)
-    if not FACT.match(why) or BOUND.match(found.split()[-1]):
-        return False, f"{name}: FAILED: refused in {found}, but not for a fact: {why}"
+    bound = BOUND.match(found.split()[-1]) is not None
     named = re.search(r"^refused in: (.+)$", text, re.M)
+    if named and named[1] != found + ", a bound" * bound:
+        return False, f"{name}: FAILED: refused in {found}{', a bound' * bound}, not in {named[1]}: {why}"
+    if not bound and not FACT.match(why):
+        return False, f"{name}: FAILED: refused in {found}, but not for a fact: {why}"
     if not named:
-        return False, f"{name}: refused in {found}, for a fact. If that is what it shows, add: refused in: {found}"
-    if named[1] != found:
-        return False, f"{name}: FAILED: refused in {found}, not in {named[1]}: {why}"
+        what = "a bound" if bound else "for a fact"
+        return False, f"{name}: refused in {found}, {what}. If that is what it shows, add: refused in: {found}" \
+            + ", a bound" * bound
     return True, f"{name}: refused in {found}"

@@ -7,36 +7,40 @@ import tempfile
 import time
 from pathlib import Path
 
-from tests.edits.refusals import judged
+from tests.edits.refusals import judged, place_of, refused_in
 from tests.lock import ROOT
 
 
-def apply(text, crate):
-    """The edit's changes made in a crate's copy; what stands in the way of them, if anything."""
-    pairs = 0
-    for word, value in re.findall(r"^(file|old|new):(?: (.*))?$", text, re.M):
+def changes(text):
+    """The edit's replacements: file, old and new text."""
+    file = old = None
+    for word, value in re.findall(r"^(file|old|new):(?: ?(.*))?$", text, re.M):
         if word == "file":
-            file = crate / value
+            file = value
         elif word == "old":
             old = value
-        elif not file.exists() or file.read_text().count(old) != 1:
-            return f"'{old}' doesn't stand once in {file.relative_to(crate)}"
         else:
-            file.write_text(file.read_text().replace(old, value))
-            pairs += 1
-    return "" if pairs else "it has no 'file:', 'old:' and 'new:'"
+            yield file, old, value
 
 
-def laid_out(work, crate):
-    """A repository for copies of the crate; the others, and what rt keeps of a proved one, are the real ones."""
+def wrong_with(pairs, crate):
+    """What stands in the way of an edit, if anything."""
+    if not any(file and not file.startswith("proofs/") for file, _, _ in pairs):
+        return "it changes no program and no definition: 'file:', 'old:' and 'new:', one in src/ or specs/"
+    for file, old, _ in pairs:
+        if not re.match(r"(src|specs|proofs)/", file) or ".." in file or not (crate / file).is_file():
+            return f"{file} is no file of the crate"
+        if not old or (crate / file).read_text().count(old) != 1:
+            return f"'{old}' doesn't stand once in {file}"
+    return ""
+
+
+def laid_out(work):
+    """A repository of copies, with what rt keeps of a proved crate."""
     shutil.copy(ROOT / "crates.txt", work)
-    (work / "crates").mkdir()
-    for other in (ROOT / "crates").iterdir():
-        if other.name != crate:
-            (work / "crates" / other.name).symlink_to(other)
-    (work / "target/inc").mkdir(parents=True)
-    shutil.copytree(ROOT / "target/stamp", work / "target/stamp")
-    (work / "target/rlib").symlink_to(ROOT / "target/rlib")
+    shutil.copytree(ROOT / "crates", work / "crates")
+    for kept in ("stamp", "rlib"):
+        shutil.copytree(ROOT / "target" / kept, work / "target" / kept)
 
 
 def restored(copy, original):
@@ -53,30 +57,50 @@ def restored(copy, original):
             shutil.copy2(original / name, copy / name)
 
 
-def said_of(work, crate):
-    """What rt dev says of the crate's copy."""
-    ran = subprocess.run(["rt", "dev", crate], cwd=work, env={**os.environ, "RT_CUT": "0"}, text=True,
-                         stdout=subprocess.PIPE, stderr=subprocess.STDOUT)
-    return ran.stdout
+class Trial:
+    def __init__(self, work, crate):
+        self.work, self.crate, self.copy = work, crate, work / "crates" / crate
+        self.kept = {self.copy: work / "kept/crate", work / "target/inc" / crate: work / "kept/inc"}
+        laid_out(work)
+        self.unedited = self.said()
+        for folder, kept in self.kept.items():
+            shutil.copytree(folder, kept)
+
+    def said(self):
+        """What rt dev says of the copy. The lock's descriptor goes on to it."""
+        ran = subprocess.run(["rt", "dev", self.crate], cwd=self.work, env={**os.environ, "RT_CUT": "0"}, text=True,
+                             stdout=subprocess.PIPE, stderr=subprocess.STDOUT, close_fds=False)
+        return ran.stdout
+
+    def said_with(self, pairs):
+        for folder, kept in self.kept.items():
+            restored(folder, kept)
+        for file, old, new in pairs:
+            (self.copy / file).write_text((self.copy / file).read_text().replace(old, new))
+        return self.said()
+
+    def of(self, name, text):
+        """Whether an edit is refused as it must be, the line to print, and the log."""
+        pairs = list(changes(text))
+        if wrong := wrong_with(pairs, self.kept[self.copy]):
+            return False, f"{name}: FAILED: {wrong}", ""
+        log = self.said_with(pairs)
+        good, line = judged(name, text, log, self.copy)
+        # A proof that is changed with the program must not be what is refused.
+        proofs = [pair for pair in pairs if pair[0].startswith("proofs/")]
+        if good and proofs and refused_in(self.said_with(proofs), self.copy) == place_of(text):
+            return False, f"{name}: FAILED: its proof is refused there with the right program too", log
+        return good, line, log
 
 
 def tried(crate, edits):
     """A crate's edits, one after the other: whether all is as it must be, the line to print, and the log of each."""
     with tempfile.TemporaryDirectory() as folder:
-        work = Path(folder).resolve()
-        laid_out(work, crate)
-        copy, inc = work / "crates" / crate, work / "target/inc" / crate
-        shutil.copytree(ROOT / "crates" / crate, copy)
-        log = said_of(work, crate)
-        good = re.search("^logic=proved ", log, re.M) is not None
-        results = [(good, f"{crate}: {'proved' if good else 'FAILED: not proved'} with no edit", log)]
-        shutil.copytree(inc, work / "kept")
+        trial = Trial(Path(folder).resolve(), crate)
+        good = re.search("^logic=proved ", trial.unedited, re.M) is not None
+        results = [(good, f"{crate}: {'proved' if good else 'FAILED: not proved'} with no edit", trial.unedited)]
         for name, text in edits.items():
-            restored(copy, ROOT / "crates" / crate)
-            restored(inc, work / "kept")
             began = time.monotonic()
-            wrong = apply(text, copy)
-            log = said_of(work, crate) if not wrong else ""
-            good, line = (False, f"{name}: FAILED: {wrong}") if wrong else judged(name, text, log, copy)
+            good, line, log = trial.of(name, text)
             results.append((good, f"{line} ({time.monotonic() - began:.1f} s)", log))
     return results
