@@ -12,12 +12,6 @@ FACT = re.compile(
 BOUND = re.compile("(add|sub|mul|div|rem|cast|index|slice|part|shared-slice|array)-|.+-requires")
 
 
-def place_of(text):
-    """The place where an edit must be refused, or None."""
-    named = re.search(r"^refused in: (.+?)(, a bound)?$", text, re.M)
-    return named and named[1]
-
-
 def first_refusal(log, crate):
     """The declaration of the first error that is no consequence of another, and the prover's words; of a function that
     the prover does by itself, the function and what of it is not proved."""
@@ -27,11 +21,6 @@ def first_refusal(log, crate):
     alone = re.search(r"^fn \w+?::(\S+): no proof: .*`search` does not close `([^`]+)`", log, re.M)
     why = re.search(r"^note: .+?:\d+:\d+: it is not proved that (.*)$", log, re.M)
     return (f"fn {alone[1]} {alone[2]}", why[1]) if alone and why else ("no declaration", "nothing but consequences")
-
-
-def refused_in(log, crate):
-    """Where a crate is refused, or None where it is not."""
-    return first_refusal(log, crate)[0] if re.search("^logic=not-proved", log, re.M) else None
 
 
 def judged(name, text, log, crate):

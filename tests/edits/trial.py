@@ -7,7 +7,7 @@ import tempfile
 import time
 from pathlib import Path
 
-from tests.edits.refusals import judged, place_of, refused_in
+from tests.edits.refusals import judged
 from tests.lock import ROOT
 
 
@@ -79,21 +79,21 @@ class Trial:
             (self.copy / file).write_text((self.copy / file).read_text().replace(old, new))
         return self.said()
 
-    def of(self, name, text):
-        """Whether an edit is refused as it must be, the line to print, and the log."""
+    def of(self, name, text, strictly):
+        """Whether an edit is refused as it must be, the line to print, and the log. Strictly: a proof that is changed
+        with the program must not be what is refused, so it is tried with the right program too."""
         pairs = list(changes(text))
         if wrong := wrong_with(pairs, self.kept[self.copy]):
             return False, f"{name}: FAILED: {wrong}", ""
         log = self.said_with(pairs)
         good, line = judged(name, text, log, self.copy)
-        # A proof that is changed with the program must not be what is refused.
         proofs = [pair for pair in pairs if pair[0].startswith("proofs/")]
-        if good and proofs and refused_in(self.said_with(proofs), self.copy) == place_of(text):
-            return False, f"{name}: FAILED: its proof is refused there with the right program too", log
+        if good and strictly and proofs and judged(name, text, self.said_with(proofs), self.copy)[0]:
+            return False, f"{name}: FAILED: with the right program its proof is refused there for a fact too", log
         return good, line, log
 
 
-def tried(crate, edits):
+def tried(crate, edits, strictly):
     """A crate's edits, one after the other: whether all is as it must be, the line to print, and the log of each."""
     with tempfile.TemporaryDirectory() as folder:
         trial = Trial(Path(folder).resolve(), crate)
@@ -101,6 +101,6 @@ def tried(crate, edits):
         results = [(good, f"{crate}: {'proved' if good else 'FAILED: not proved'} with no edit", trial.unedited)]
         for name, text in edits.items():
             began = time.monotonic()
-            good, line, log = trial.of(name, text)
+            good, line, log = trial.of(name, text, strictly)
             results.append((good, f"{line} ({time.monotonic() - began:.1f} s)", log))
     return results
