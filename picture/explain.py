@@ -1,18 +1,11 @@
-#!/usr/bin/env python3
-"""The simulator's output with plain words beside it, and what the board was before.
-Usage: simulator < BOARD | explain.py BOARD"""
-import sys
-from pathlib import Path
-
-if __name__ == "__main__":
-    sys.path.insert(0, str(Path(__file__).resolve().parents[1]))
+"""The simulator's output with plain words beside it, and what the board was before."""
 from model.board import RECORD, board_of, signed
 from model.flash import BOOT, UPDATE, check
 from model.loader import verdict, version
-from model.refusals import Refused
+from model.refusals import Refused, in_words
 from model.slots import SPENT, UPDATING, flags, state_at
 from picture.contents import trailer_of
-from picture.words import FLAGS, NAMES, REASONS, refusal_text, step_text
+from picture.words import FLAGS, NAMES, refusal_text, step_text
 
 
 def board_or_none(data):
@@ -29,7 +22,7 @@ def board_or_none(data):
 
 def image_text(g, flash, slot):
     number = verdict(g, flash, (True, True), slot)
-    return f"version {version(g, flash, slot)}" if number == 0 else f"no whole image, {REASONS[number]}"
+    return f"version {version(g, flash, slot)}" if number == 0 else f"no whole image, {in_words(number)}"
 
 
 def trailer_text(g, flash, slot):
@@ -43,12 +36,11 @@ def trailer_text(g, flash, slot):
     return f"{text}, sectors {', '.join(FLAGS.get(flag, 'unknown') for flag in flags(g, flash))}"
 
 
-def describe(board):
+def described(board):
     g, flash, _ = board
-    for slot in BOOT, UPDATE:
-        print(f"{NAMES[slot]}: {image_text(g, flash, slot)}; {trailer_text(g, flash, slot)}")
+    slots = [f"{NAMES[slot]}: {image_text(g, flash, slot)}; {trailer_text(g, flash, slot)}" for slot in (BOOT, UPDATE)]
     words = [f"{NAMES[slot]} {'yes' if yes else 'no'}" for slot, yes in enumerate(signed(board.answers))]
-    print("signature checker:", ", ".join(words))
+    return [*slots, f"signature checker: {', '.join(words)}"]
 
 
 def end_text(g, word, number, last):
@@ -59,19 +51,11 @@ def end_text(g, word, number, last):
     return f"boots version {number}"
 
 
-def main():
-    board = board_or_none(Path(sys.argv[1]).read_bytes())
-    g = board and board.geometry
-    if board is not None:
-        describe(board)
-    step = None
-    for line in sys.stdin.read().splitlines():
-        letter, *numbers = line.split()
-        numbers = [int(number) for number in numbers]
-        text = step_text(g, letter, *numbers) if len(letter) == 1 else end_text(g, letter, *numbers, step)
-        print(f"{line:<14}{text}")
-        step = [letter, *numbers]
-
-
-if __name__ == "__main__":
-    main()
+def explained(data, steps, end):
+    """The lines for a board, from the steps and the end that the simulator printed."""
+    board = board_or_none(data)
+    g, lines = board and board.geometry, described(board) if board else []
+    for step in steps:
+        lines.append(f"{' '.join(map(str, step)):<14}{step_text(g, *step)}")
+    last = list(steps[-1]) if steps else None
+    return [*lines, f"{' '.join(map(str, end)):<14}{end_text(g, *end, last)}"]

@@ -2,9 +2,10 @@
 from model.board import signed
 from model.flash import BOOT, UPDATE, outside
 from model.loader import verdict, version
+from model.refusals import in_words
 from model.slots import SUCCESS, TESTING, sound_with
 from picture.images import area_sectors
-from picture.words import NAMES, REASONS, STATES, refusal_text
+from picture.words import NAMES, STATES, refusal_text
 
 
 def counted(number, word):
@@ -24,7 +25,7 @@ def slot_text(board, images, slot):
     """What a slot holds, and from which slot it came."""
     g, flash, _ = board
     number = verdict(g, flash, signed(board.answers), slot)
-    text = f"version {version(g, flash, slot)}, whole" if number == 0 else f"does not pass, {REASONS[number]}"
+    text = f"version {version(g, flash, slot)}, whole" if number == 0 else f"does not pass, {in_words(number)}"
     origins = [NAMES[i] for i, image in enumerate(images) if image.sectors == area_sectors(g, flash, slot)]
     came = f"every byte from {origins[0] if len(origins) == 1 else 'either'}" if origins else "other bytes than found"
     return f"{NAMES[slot]}: {text}; {came}"

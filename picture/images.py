@@ -3,10 +3,10 @@ from typing import NamedTuple
 
 from model.flash import BOOT, UPDATE
 from model.header import verdict, version_or_none
-from model.refusals import Refused
+from model.refusals import Refused, in_words
 from model.slots import UPDATING, progress, sound_with
 from picture.places import SWAP
-from picture.words import NAMES, REASONS
+from picture.words import NAMES
 
 
 class Image(NamedTuple):
@@ -47,7 +47,7 @@ def image(slot, sectors, other):
     name = f"v{number}" if telling and number < 1000 else letter
     mark = str(number) if telling and number < 10 else letter
     text = f"{NAMES[slot]}'s bytes" if number is None else f"version {number} from {NAMES[slot]}"
-    return Image(name, mark, text if refused == 0 else f"{text}, {REASONS[refused]}", sectors)
+    return Image(name, mark, text if refused == 0 else f"{text}, {in_words(refused)}", sectors)
 
 
 def images_of(g, flash):

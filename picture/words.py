@@ -1,5 +1,6 @@
 """Plain words for a board's places, trailers, flags, steps and refusals."""
 from model.flash import BOOT, UPDATE
+from model.refusals import in_words
 from model.slots import BACKUP, NEW, SPENT, SUCCESS, SWAPPING, TESTING, UPDATED, UPDATING, state_at
 from picture.places import SWAP, flag_written, sector_of
 
@@ -7,17 +8,12 @@ NAMES = "BOOT", "UPDATE", "SWAP"
 STATES = {0xFF: "new", UPDATING: "updating", TESTING: "on trial", SUCCESS: "confirmed", SPENT: "spent"}
 FLAGS = {NEW: "new", SWAPPING: "swapping", BACKUP: "backup", UPDATED: "updated"}
 SAFE = {SWAPPING: "UPDATE's is in SWAP", BACKUP: "BOOT's is in UPDATE", UPDATED: "UPDATE's is in BOOT"}
-REASONS = {
-    1: "a sector size that is not listed", 2: "not 1 to 64 sectors", 3: "an offset unaligned, or an area past the end",
-    4: "areas overlap", 5: "under 24 bytes of input, or over 65,536 of flash", 11: "the image mark is wrong",
-    12: "the size is 0 or past the image", 13: "a tag passes 256", 14: "a mandatory tag is missing",
-    15: "a mandatory tag is repeated", 16: "a mandatory tag has the wrong length", 17: "the digest differs",
-    18: "the signature checker says no", 20: "the flags are ill-formed",
-}
 
 
 def refusal_text(number):
-    return f"refused: {REASONS[number]}"
+    """Of a board. The verdict that a loader ends with is BOOT's."""
+    slot = "BOOT: " if 11 <= number <= 18 else "UPDATE: " if number == 20 else ""
+    return f"refused: {slot}{in_words(number)}"
 
 
 def state_text(state):

@@ -1,13 +1,14 @@
 """One board drawn as text and as SVG by the picture's own main, read back, and held to what is expected."""
+import argparse
 import contextlib
-import io
 from pathlib import Path
 
+from commands.inputs import contents
+from commands.picture import options, shown
 from model.flash import BOOT, UPDATE
 from model.refusals import Refused
 from model.simulator import simulate
 from model.slots import UPDATING, image, progress, sound_with
-from picture.__main__ import main
 from tests.picture.closing import check_closing
 from tests.picture.drawn import read_svg, read_text
 from tests.picture.history import expected
@@ -19,9 +20,10 @@ ROOT = Path(__file__).resolve().parents[2]
 
 
 def printed(*words):
-    with contextlib.redirect_stdout(io.StringIO()) as out:
-        main([str(word) for word in words])
-    return out.getvalue()
+    parser = argparse.ArgumentParser()
+    options(parser)
+    given = parser.parse_args([str(word) for word in words])
+    return "\n".join(shown(given, contents(given.board))[0]) + "\n"
 
 
 def images_found(g, flash):

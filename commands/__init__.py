@@ -1,0 +1,1 @@
+"""The commands of ./frondicare, a file for each, over the proved programs."""
