@@ -78,6 +78,20 @@ typedef struct {
     size_t len;
 } frondicare_tag;
 
+/* The version of an image. number is 0 where its header passes its checks; otherwise it says why not, and
+ * version is 0. */
+typedef struct {
+    uint32_t number;
+    uint32_t version;
+} frondicare_version;
+
+/* A slot's state byte where its trailer is sound; otherwise 256, which is no byte. number is 0, or says why
+ * the geometry is refused. */
+typedef struct {
+    uint32_t number;
+    uint32_t state;
+} frondicare_slot_state;
+
 /* The kinds of a step. */
 enum {
     FRONDICARE_ERASE = 0,
@@ -133,6 +147,9 @@ uint32_t frondicare_verify(const uint8_t *image, size_t image_len, bool signatur
  * firmware type 0x0030. A tag of length 0 is found too. The image is not verified.
  * 10: shorter than 256; 13: a tag passes 256 before a match is met; 25: absent. */
 frondicare_tag frondicare_find_tag(const uint8_t *header, size_t header_len, uint16_t type);
+
+/* The version of an image. Its digest and signature are not checked. 10 to 16 as for frondicare_verify. */
+frondicare_version frondicare_version_of(const uint8_t *image, size_t image_len);
 
 /* The digest to be signed of an image that is yet to be written. custom is a run of custom tags, at
  * most 82 bytes: type, length, content of each, with no padding; custom_len 0 for none.
@@ -194,16 +211,36 @@ frondicare_answer frondicare_confirm(const uint8_t *flash, size_t flash_len,
                                      size_t sector_size, size_t sector_count,
                                      size_t boot, size_t update, size_t swap);
 
-/* Decides and carries out up to number steps, 0 to 4096, and adds each to the record as it is done. It
- * ends at a boot, which follows a last step at once with no reason; at a refusal; or with the number used
+/* BOOT's state and UPDATE's. 1 to 4 as above. */
+frondicare_slot_state frondicare_boot_state(const uint8_t *flash, size_t flash_len,
+                                            size_t sector_size, size_t sector_count,
+                                            size_t boot, size_t update, size_t swap);
+
+frondicare_slot_state frondicare_update_state(const uint8_t *flash, size_t flash_len,
+                                              size_t sector_size, size_t sector_count,
+                                              size_t boot, size_t update, size_t swap);
+
+/* Whether it is mid-swap: UPDATE is sound with 70, and its flags, well-formed or not, are neither all F nor
+ * all 0. false where the geometry is refused. In mid-swap frondicare_next_step answers a step or refuses
+ * with 20, whatever boot_signed and update_signed are. */
+bool frondicare_in_mid_swap(const uint8_t *flash, size_t flash_len,
+                            size_t sector_size, size_t sector_count,
+                            size_t boot, size_t update, size_t swap);
+
+/* The most steps that a run does, whatever its flash holds: 2 (9 sector_count + 4). With this number a run
+ * never answers a step that is due. 0 where sector_count is not 1 to 64. */
+uint32_t frondicare_most_steps(size_t sector_count);
+
+/* Decides and carries out up to most_steps steps, 0 to 4096, and adds each to the record as it is done. It
+ * ends at a boot, which follows a last step at once with no reason; at a refusal; or with that number used
  * up, and then answers the step that is due, which is not done. boot_signed and update_signed are those
  * at the start. Boot and refused as for frondicare_next_step. Refused before the first step: 1 to 4 as
- * above; 29: number is above 4096; 28: a counter is above 4,294,963,199. */
+ * above; 29: most_steps is above 4096; 28: a counter is above 4,294,963,199. */
 frondicare_answer frondicare_run(uint8_t *flash, size_t flash_len,
                                  size_t sector_size, size_t sector_count,
                                  size_t boot, size_t update, size_t swap,
                                  bool boot_signed, bool update_signed,
-                                 uint32_t number, frondicare_step_counts *counts);
+                                 uint32_t most_steps, frondicare_step_counts *counts);
 
 /* Adds one finished step to a record. op is the step's, as for frondicare_apply_step. 24: op is above
  * 3; 28: a counter is above 4,294,963,199. */

@@ -3,3 +3,4 @@ pub mod Tags
 pub mod Steps
 pub mod Answers
 pub mod Additions
+pub mod States

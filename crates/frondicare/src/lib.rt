@@ -3,15 +3,17 @@
 mod flash_entries;
 mod loader_entries;
 mod run_entries;
+mod state_entries;
 
 ghost use mathlib.Core.Path.{_≡_};
 ghost use mathlib.Core.List.{_++_};
+ghost use Rattle.header.specs.Checks.{versionOf};
 ghost use Rattle.header.specs.Lookup.{lookup};
 ghost use Rattle.image.specs.Verdict.{verdict};
 ghost use Rattle.sha256.specs.Digest.{answer};
 ghost use Rattle.writer.specs.Writer.{toSign, writeCheck, bufferAfter};
 ghost use Rattle.frondicare.specs.Digests.{filled};
-ghost use Rattle.frondicare.specs.Tags.{placeOf};
+ghost use Rattle.frondicare.specs.Tags.{placeOf, flatVersion};
 use header::Lookup;
 use writer::Fields;
 
@@ -21,6 +23,13 @@ pub struct TagPlace {
     pub number: u32,
     pub at: usize,
     pub len: usize,
+}
+
+// An image's version, with the number 0; or document 01's number, and 0.
+#[repr(C)]
+pub struct FlatVersion {
+    pub number: u32,
+    pub version: u32,
 }
 
 // Stores the digest of a message and answers 0, or answers document 01's number and stores nothing.
@@ -82,6 +91,18 @@ pub extern "C" fn frondicare_find_tag(header: &[u8], kind: u16) -> TagPlace
             at: 0,
             len: 0,
         },
+    }
+}
+
+// The version in the header of an image.
+#[no_mangle]
+pub extern "C" fn frondicare_version_of(image: &[u8]) -> FlatVersion
+    ensures { λ r. ⌜ r ≡ flatVersion (versionOf (now (image .entry))) ⌝ }
+{
+    let v = header::version_of(image);
+    FlatVersion {
+        number: v.number,
+        version: v.version,
     }
 }
 

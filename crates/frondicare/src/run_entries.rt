@@ -3,6 +3,7 @@
 ghost use mathlib.Core.Bool.{cond};
 ghost use mathlib.Core.Path.{_≡_};
 ghost use Rattle.loader.specs.Checks.{imageChecks};
+ghost use Rattle.runner.specs.MostSteps.{mostSteps};
 ghost use Rattle.runner.specs.Runs.{runOf};
 ghost use Rattle.frondicare.specs.Additions.{stepBy, additionCheck, countsLeft};
 ghost use Rattle.frondicare.specs.Answers.{FlatLeaves};
@@ -29,14 +30,22 @@ pub extern "C" fn frondicare_run(
     swap: usize,
     boot_signed: bool,
     update_signed: bool,
-    number: u32,
+    most_steps: u32,
     counts: &mut StepCounts,
 ) -> FlatAnswer
-    ensures { λ r. ⌜ FlatLeaves (now (counts .entry)) (runOf imageChecks (geometryOf «sector_size» «sector_count» boot update swap) number «boot_signed»
+    ensures { λ r. ⌜ FlatLeaves (now (counts .entry)) (runOf imageChecks (geometryOf «sector_size» «sector_count» boot update swap) «most_steps» «boot_signed»
         «update_signed» (now (flash .entry)) (now (counts .entry))) r (now (flash .exit)) (now (counts .exit)) ⌝ }
 {
     let g = geometry_of(sector_size, sector_count, boot, update, swap);
-    flat_answer(run(flash, g, boot_signed, update_signed, number, counts))
+    flat_answer(run(flash, g, boot_signed, update_signed, most_steps, counts))
+}
+
+// The most steps that a run does; with this number it always ends.
+#[no_mangle]
+pub extern "C" fn frondicare_most_steps(sector_count: usize) -> u32
+    ensures { λ r. ⌜ r ≡ mostSteps «sector_count» ⌝ }
+{
+    runner::most_steps(sector_count)
 }
 
 // Whether an op stands for a step, and that step.

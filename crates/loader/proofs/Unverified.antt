@@ -1,4 +1,4 @@
--- In mid-swap nothing is verified: the decision is the exchange's step, or 20. Assumes nothing.
+-- In mid-swap nothing is verified and nothing boots: the decision is the exchange's step, or 20. Assumes nothing.
 use Prim.Native.Nat.{ℕ, _*_, _<_}
 use mathlib.Core.Bool.{Bool, true, false, cond, not, _&&_}
 use mathlib.Core.List.{List}
@@ -18,10 +18,10 @@ use Rattle.slots.specs.declared.answers.Progress.{Progress}
 use Rattle.slots.specs.declared.answers.Progress.the-variants as P
 use Rattle.slots.specs.declared.places.Slot.the-variants.{Update}
 use Rattle.slots.proofs.Exchanging.{exchangeStepAt, exchange-due}
-use Rattle.slots.proofs.Reached.{new-at, flags-says}
+use Rattle.slots.proofs.Reached.{new-at, ill-formed, flags-says}
 use Rattle.loader.specs.Checks.{Checks}
 use Rattle.loader.specs.Decisions.{stagedDecision, decision, nextStep}
-use Rattle.loader.specs.MidSwap.{midSwap, NothingVerified}
+use Rattle.loader.specs.MidSwap.{midSwap, midSwapAnswer, NothingVerified, StepOr20, NeverBoots}
 use Rattle.loader.specs.States.{testing, staged}
 use Rattle.loader.specs.declared.answers.Answer.{Answer}
 use Rattle.loader.specs.declared.answers.Answer.the-variants as A
@@ -81,3 +81,17 @@ nothing-verified g f is checks checks′ a a′ b b′ = go (eqb (geometryCheck 
     go : (c : Bool) → eqb (geometryCheck g (length f)) 0 ≡ c → cond c (decision checks g f a b) refused ≡ cond c (decision checks′ g f a′ b′) refused
     go true e = let ok = eqb-true _ _ e in decides g f is ok checks a b ∙ sym (decides g f is ok checks′ a′ b′)
     go false e = refl
+
+pub never-boots : NeverBoots
+unfolding nextStep midSwapAnswer answered
+never-boots g f is checks a b = rw (ok, decides g f swapping ok checks a b) (go (progressOf (fs g f)) refl)
+  where
+    ok : geometryCheck g (length f) ≡ 0
+    ok = eqb-true _ _ (and-left (eqb (geometryCheck g (length f)) 0) (midSwap g f) is)
+
+    swapping : midSwap g f ≡ true
+    swapping = and-right (eqb (geometryCheck g (length f)) 0) (midSwap g f) is
+
+    go : (r : Progress) → progressOf (fs g f) ≡ r → StepOr20 (answered g f r)
+    go (P.At p) e = tt
+    go (P.Refused n) e = ill-formed (fs g f) n e .1

@@ -1,14 +1,16 @@
 // The loader's decisions (document 01, "The next step"): the next step of an update or a return, trigger
-// and confirm. They read the lent flash and change nothing; flash::apply_step carries a step out.
+// and confirm, and whether it is mid-swap. They read the lent flash and change nothing; flash::apply_step carries a step out.
 // Every public function is total: the geometry's numbers 1 to 4 first, then what document 01 says.
 mod answers;
 mod decisions;
+mod mid_swap;
 mod requests;
 mod states;
 
 ghost use mathlib.Core.Path.{_≡_};
 ghost use Rattle.loader.specs.Checks.{imageChecks};
 ghost use Rattle.loader.specs.Decisions.{nextStep};
+ghost use Rattle.loader.specs.MidSwap.{midSwapAnswer};
 ghost use Rattle.loader.specs.Requests.{triggerAnswer, confirmAnswer};
 pub use answers::Answer;
 use flash::Geometry;
@@ -50,4 +52,14 @@ pub fn confirm(flash: &[u8], g: Geometry) -> Work
         return Work::Refused(number);
     }
     requests::confirm(flash, g)
+}
+
+// Whether it is mid-swap; not where the geometry is refused.
+pub fn in_mid_swap(flash: &[u8], g: Geometry) -> bool
+    ensures { λ r. ⌜ r ≡ midSwapAnswer g (now (flash .entry)) ⌝ }
+{
+    if check_geometry(g, flash.len()) != 0 {
+        return false;
+    }
+    mid_swap::is_mid_swap(flash, g)
 }

@@ -18,3 +18,4 @@ pub mod Counting
 pub mod Returning
 pub mod Found
 pub mod Ending
+pub mod MostSteps

@@ -1,3 +1,4 @@
 pub mod Counts
 pub mod Runs
+pub mod MostSteps
 pub mod Standings

@@ -9,6 +9,7 @@ mod standing;
 ghost use mathlib.Core.Path.{_≡_};
 ghost use Rattle.loader.specs.Checks.{imageChecks};
 ghost use Rattle.runner.specs.Counts.{withStep, countsCheck, countsAfter, RoomFor};
+ghost use Rattle.runner.specs.MostSteps.{mostSteps};
 ghost use Rattle.runner.specs.Runs.{runOf, Leaves};
 pub use counts::StepCounts;
 use counts::check_counts;
@@ -39,6 +40,16 @@ pub fn add_step(counts: &mut StepCounts, step: Step) -> u32
         count_step(counts, step);
     }
     refusal
+}
+
+// The most steps that a run does where a slot has count image sectors; 0 where that is not 1 to 64.
+pub fn most_steps(count: usize) -> u32
+    ensures { λ r. ⌜ r ≡ mostSteps count ⌝ }
+{
+    if (1 <= count) & (count <= 64) {
+        return 2 * (9 * (count as u32) + 4);
+    }
+    0
 }
 
 // A run of up to a number of steps (0 to 4096). Each finished step is counted in the caller's record as it

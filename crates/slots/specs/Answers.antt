@@ -9,9 +9,11 @@ use Rattle.flash.specs.declared.geometry.Geometry.{Geometry}
 use Rattle.slots.specs.Exchange.{exchangeOf, nextFlagOf}
 use Rattle.slots.specs.Flags.{flags, progressOf}
 use Rattle.slots.specs.Places.{trailerOf, imageOf}
-use Rattle.slots.specs.Trailers.{stateAt, soundWith, renewalOf}
+use Rattle.slots.specs.Trailers.{stateAt, soundWith, stateOf, renewalOf}
 use Rattle.slots.specs.declared.answers.Progress.{Progress}
 use Rattle.slots.specs.declared.answers.Progress.the-variants as P
+use Rattle.slots.specs.declared.answers.SlotState.{SlotState}
+use Rattle.slots.specs.declared.answers.SlotState.the-variants as S
 use Rattle.slots.specs.declared.answers.Work.{Work}
 use Rattle.slots.specs.declared.answers.Work.the-variants as W
 use Rattle.slots.specs.declared.places.Slot.{Slot}
@@ -28,6 +30,9 @@ imageAnswer g f s = cond (accepts g f) (imageOf g f s) []
 
 unfoldable pub soundAnswer : Geometry → List ℕ → Slot → ℕ → Bool
 soundAnswer g f s v = accepts g f && soundWith (trailerOf g f s) v
+
+unfoldable pub stateAnswer : Geometry → List ℕ → Slot → SlotState
+stateAnswer g f s = cond (accepts g f) (stateOf (trailerOf g f s)) (S.Refused (number g f))
 
 unfoldable pub stateAtAnswer : Geometry → List ℕ → Slot → ℕ
 stateAtAnswer g f s = cond (accepts g f) (stateAt g s) 0

@@ -10,6 +10,8 @@ use Rattle.flash.specs.declared.geometry.Geometry.{Geometry}
 use Rattle.flash.specs.declared.steps.Step.the-variants.{Erase, Byte, Mark}
 use Rattle.slots.specs.Flags.{new, flags}
 use Rattle.slots.specs.Places.{offset, trailerOf}
+use Rattle.slots.specs.declared.answers.SlotState.{SlotState}
+use Rattle.slots.specs.declared.answers.SlotState.the-variants.{Sound, NotSound}
 use Rattle.slots.specs.declared.answers.Work.{Work}
 use Rattle.slots.specs.declared.answers.Work.the-variants.{Due, Finished}
 use Rattle.slots.specs.declared.places.Place.the-variants.{Sector}
@@ -25,6 +27,10 @@ stateAt g s = offset g (Sector s (g .count)) + (g .size - 5)
 
 unfoldable pub soundWith : List ℕ → ℕ → Bool
 soundWith t v = sound t && eqb (state t) v
+
+-- the state byte of a sound trailer
+unfoldable pub stateOf : List ℕ → SlotState
+stateOf t = cond (sound t) (Sound (state t)) NotSound
 
 -- ---- renewing (the paper's word) a trailer to a state v
 

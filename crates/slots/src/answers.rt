@@ -7,6 +7,13 @@ pub enum Progress {
     Refused(u32),
 }
 
+// The state byte of a slot, where its trailer is sound.
+pub enum SlotState {
+    Sound(u8),
+    NotSound,
+    Refused(u32),
+}
+
 // The step that is due, or nothing more to do.
 pub enum Work {
     Due(Step),

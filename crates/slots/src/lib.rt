@@ -7,8 +7,9 @@ mod places;
 mod trailers;
 
 ghost use mathlib.Core.Path.{_≡_};
-ghost use Rattle.slots.specs.Answers.{imageAnswer, soundAnswer, stateAtAnswer, renewalAnswer, progressAnswer, exchangeAnswer, nextFlagAnswer};
+ghost use Rattle.slots.specs.Answers.{imageAnswer, soundAnswer, stateAnswer, stateAtAnswer, renewalAnswer, progressAnswer, exchangeAnswer, nextFlagAnswer};
 pub use answers::Progress;
+pub use answers::SlotState;
 pub use answers::Work;
 use flash::Geometry;
 use flash::check_geometry;
@@ -33,6 +34,17 @@ pub fn is_sound_with(flash: &[u8], g: Geometry, slot: Slot, state: u8) -> bool
         return false;
     }
     trailers::is_sound_with(places::trailer(flash, g, slot), state)
+}
+
+// A slot's state.
+pub fn state(flash: &[u8], g: Geometry, slot: Slot) -> SlotState
+    ensures { λ r. ⌜ r ≡ stateAnswer g (now (flash .entry)) slot ⌝ }
+{
+    let number = check_geometry(g, flash.len());
+    if number != 0 {
+        return SlotState::Refused(number);
+    }
+    trailers::state(places::trailer(flash, g, slot))
 }
 
 // Where a slot's state byte lies, or 0 where the geometry is refused.

@@ -2,8 +2,10 @@
 ghost use mathlib.Core.Path.{_≡_};
 ghost use Prim.Native.Nat.{_+_, _^_, _≤_, _<_};
 ghost use lib.ListN.{length};
+ghost use Rattle.flash.specs.Cuts.{sound};
 ghost use Rattle.flash.specs.Valid.{Valid};
-ghost use Rattle.slots.specs.Trailers.{stateAt, soundWith, allButState, flagCount, renewedTo, renew, renewalOf};
+ghost use Rattle.slots.specs.Trailers.{stateAt, soundWith, stateOf, allButState, flagCount, renewedTo, renew, renewalOf};
+use crate::answers::SlotState;
 use crate::answers::Work;
 use crate::flags::is_rest;
 use crate::places::Place;
@@ -15,12 +17,30 @@ use compare::same;
 use flash::Geometry;
 use flash::Step;
 
+// Whether a trailer ends in the closing bytes.
+fn is_sound(t: &[u8]) -> bool
+    requires { ⌜ 256 ≤ length (now t) ⌝ }
+    ensures { λ r. ⌜ r ≡ sound (now (t .entry)) ⌝ }
+{
+    let end = t.len() - 4;
+    same(&t[end..], b"BOOT")
+}
+
 pub(crate) fn is_sound_with(t: &[u8], state: u8) -> bool
     requires { ⌜ 256 ≤ length (now t) ⌝ }
     ensures { λ r. ⌜ r ≡ soundWith (now (t .entry)) state ⌝ }
 {
-    let end = t.len() - 4;
-    same(&t[end..], b"BOOT") & (t[end - 1] == state)
+    is_sound(t) & (t[t.len() - 5] == state)
+}
+
+pub(crate) fn state(t: &[u8]) -> SlotState
+    requires { ⌜ 256 ≤ length (now t) ⌝ }
+    ensures { λ r. ⌜ r ≡ stateOf (now (t .entry)) ⌝ }
+{
+    if is_sound(t) {
+        return SlotState::Sound(t[t.len() - 5]);
+    }
+    SlotState::NotSound
 }
 
 // Where a slot's state byte lies in a flash of len bytes.

@@ -12,7 +12,7 @@ slice-aggregate-all c = sym (length-take-le _ _ (omega arith))
 returns : tie.Need-returns
 returns c =
     let a = c .before .before .before .before .before .before in
-    all-read (a .args .t .now) (a .args .state) (a .pre) (c .before .before .before .all .result) (c .all2 .result) (c .before .before .before .all .ensures) (c .all2 .ensures)
+    all-read (a .args .t .now) (a .pre) (a .args .state) (c .before .before .before .all .result) (c .all2 .result) (c .before .before .before .all .ensures) (c .all2 .ensures)
 
 pub is-all-but-state-spec : {M : Type 1} → statement M
 is-all-but-state-spec =

@@ -1,0 +1,10 @@
+use borrow.Author.Needs.{needs}
+use Rattle.frondicare.proofs.state_entries.frondicare_update_state.Statement.{statement}
+use Rattle.frondicare.proofs.state_entries.frondicare_update_state.Tie as tie
+
+returns : tie.Need-returns
+returns c = rw (← c .before .before .geometry-of .ensures, ← c .before .state .ensures, ← c .flat-state .ensures)
+
+pub frondicare-update-state-spec : {M : Type 1} → statement M
+frondicare-update-state-spec =
+    tie.close (tie.spec (λ c κs. search needs) (λ c κs. search needs) (λ c κs. search needs) returns)
