@@ -10,6 +10,7 @@ extern __typeof__(frondicare_digest) plain_digest;
 extern __typeof__(frondicare_digest_of_two) plain_digest_of_two;
 extern __typeof__(frondicare_verify) plain_verify;
 extern __typeof__(frondicare_find_tag) plain_find_tag;
+extern __typeof__(frondicare_version_of) plain_version_of;
 extern __typeof__(frondicare_digest_to_sign) plain_digest_to_sign;
 extern __typeof__(frondicare_write_header) plain_write_header;
 extern __typeof__(frondicare_check_geometry) plain_check_geometry;
@@ -17,6 +18,10 @@ extern __typeof__(frondicare_apply_step) plain_apply_step;
 extern __typeof__(frondicare_next_step) plain_next_step;
 extern __typeof__(frondicare_trigger) plain_trigger;
 extern __typeof__(frondicare_confirm) plain_confirm;
+extern __typeof__(frondicare_boot_state) plain_boot_state;
+extern __typeof__(frondicare_update_state) plain_update_state;
+extern __typeof__(frondicare_in_mid_swap) plain_in_mid_swap;
+extern __typeof__(frondicare_most_steps) plain_most_steps;
 extern __typeof__(frondicare_run) plain_run;
 extern __typeof__(frondicare_add_step) plain_add_step;
 

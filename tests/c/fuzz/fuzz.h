@@ -22,6 +22,7 @@ void call_digest(void);
 void call_digest_of_two(void);
 void call_verify(void);
 void call_find_tag(void);
+void call_version_of(void);
 void call_digest_to_sign(void);
 void call_write_header(void);
 void call_check_geometry(void);
@@ -29,6 +30,10 @@ void call_apply_step(void);
 void call_next_step(void);
 void call_trigger(void);
 void call_confirm(void);
+void call_boot_state(void);
+void call_update_state(void);
+void call_in_mid_swap(void);
+void call_most_steps(void);
 void call_run(void);
 void call_add_step(void);
 

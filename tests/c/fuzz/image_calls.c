@@ -36,6 +36,15 @@ void call_verify(void)
     same_number(frondicare_verify(i.at, i.len, signature_ok), plain_verify(i.at, i.len, signature_ok));
 }
 
+void call_version_of(void)
+{
+    readable i = any_image();
+    frondicare_version v = frondicare_version_of(i.at, i.len), expected = plain_version_of(i.at, i.len);
+    if (v.version != expected.version || (v.number != 0 && v.version != 0))
+        fail("number %u: version %u, not %u", v.number, v.version, expected.version);
+    same_number(v.number, expected.number);
+}
+
 /* One that is named, one that stands somewhere in the header, or any. */
 static uint16_t any_type(readable header)
 {

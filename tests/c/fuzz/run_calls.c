@@ -1,6 +1,7 @@
 #include "boards.h"
 #include "fuzz.h"
 #include "random.h"
+#include "seen.h"
 #include <string.h>
 
 enum { MOST_STEPS = 4096 };
@@ -59,6 +60,15 @@ void call_run(void)
     refused = answer.kind == FRONDICARE_REFUSED && is_untouched(&counts);
     lent_check(&flash, refused);
     lent_check(&counts, refused);
+}
+
+void call_most_steps(void)
+{
+    size_t count = percent(50) ? up_to(70) : any_size(64);
+    uint32_t steps = frondicare_most_steps(count), expected = plain_most_steps(count);
+    if (steps != expected)
+        fail("%zu sectors: %u steps, not %u", count, steps, expected);
+    seen(steps == 0 ? "none" : "some");
 }
 
 void call_add_step(void)

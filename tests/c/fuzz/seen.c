@@ -3,7 +3,7 @@
 #include <stdio.h>
 #include <string.h>
 
-enum { MOST_ENTRIES = 16, MOST_ANSWERS = 48 };
+enum { MOST_ENTRIES = 24, MOST_ANSWERS = 48 };
 
 static unsigned long times[MOST_ENTRIES][MOST_ANSWERS];
 

@@ -1,5 +1,5 @@
 //! Entries on messages, headers and images.
-use frondicare_tests::entries::Tag;
+use frondicare_tests::entries::{Tag, Version};
 use frondicare_tests::writer::{Fields, Parts};
 use frondicare_tests::{header, sha256, writer};
 use std::slice::{from_raw_parts, from_raw_parts_mut};
@@ -49,6 +49,14 @@ unsafe extern "C" fn plain_find_tag(header: *const u8, header_len: usize, kind: 
     match header::find_tag(from_raw_parts(header, header_len), kind) {
         Ok(header::Tag { at, len, .. }) => Tag { number: 0, at, len },
         Err(number) => Tag { number, at: 0, len: 0 },
+    }
+}
+
+#[no_mangle]
+unsafe extern "C" fn plain_version_of(image: *const u8, image_len: usize) -> Version {
+    match header::version(from_raw_parts(image, image_len)) {
+        Ok(version) => Version { number: 0, version },
+        Err(number) => Version { number, version: 0 },
     }
 }
 

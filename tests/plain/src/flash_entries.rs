@@ -1,10 +1,11 @@
 //! Entries on a flash and on the record of finished steps.
 use frondicare_tests::answers::RawAnswer;
 use frondicare_tests::decisions::{self, Signed};
-use frondicare_tests::flash::Geometry;
+use frondicare_tests::flash::{Geometry, Slot};
 use frondicare_tests::raw_step::RawStep;
 use frondicare_tests::requests;
 use frondicare_tests::runs::{self, Counts};
+use frondicare_tests::states::{self, SlotState};
 use std::slice::{from_raw_parts, from_raw_parts_mut};
 
 #[no_mangle]
@@ -65,12 +66,35 @@ on_flash! {
 }
 
 on_flash! {
+    fn plain_boot_state(flash = from_raw_parts, geometry) -> SlotState {
+        states::slot_state(flash, &geometry, Slot::Boot)
+    }
+}
+
+on_flash! {
+    fn plain_update_state(flash = from_raw_parts, geometry) -> SlotState {
+        states::slot_state(flash, &geometry, Slot::Update)
+    }
+}
+
+on_flash! {
+    fn plain_in_mid_swap(flash = from_raw_parts, geometry) -> bool {
+        states::in_mid_swap(flash, &geometry)
+    }
+}
+
+on_flash! {
     fn plain_run(
         flash = from_raw_parts_mut, geometry,
         boot_signed: bool, update_signed: bool, number: u32, counts: &mut Counts
     ) -> RawAnswer {
         runs::run(flash, &geometry, Signed { boot: boot_signed, update: update_signed }, number, counts).into()
     }
+}
+
+#[no_mangle]
+extern "C" fn plain_most_steps(sector_count: usize) -> u32 {
+    runs::most_steps(sector_count)
 }
 
 #[no_mangle]

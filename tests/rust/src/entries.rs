@@ -1,6 +1,7 @@
 //! The C entries, as include/frondicare.h declares them. A slice is a pointer and then a length.
 use crate::answers::RawAnswer;
 use crate::runs::Counts;
+use crate::states::SlotState;
 use crate::writer::Fields;
 
 /// What a lookup answers: where the content lies, or a number and 0, 0.
@@ -10,6 +11,14 @@ pub struct Tag {
     pub number: u32,
     pub at: usize,
     pub len: usize,
+}
+
+/// The version, or a number and 0.
+#[repr(C)]
+#[derive(Clone, Copy, Debug, PartialEq)]
+pub struct Version {
+    pub number: u32,
+    pub version: u32,
 }
 
 extern "C" {
@@ -23,6 +32,8 @@ extern "C" {
     ) -> u32;
     pub fn frondicare_verify(image: *const u8, image_len: usize, signature_ok: bool) -> u32;
     pub fn frondicare_find_tag(header: *const u8, header_len: usize, kind: u16) -> Tag;
+    pub fn frondicare_version_of(image: *const u8, image_len: usize) -> Version;
+    pub fn frondicare_most_steps(sector_count: usize) -> u32;
     pub fn frondicare_add_step(counts: *mut Counts, op: u32) -> u32;
 }
 
@@ -64,7 +75,10 @@ on_flash! {
     fn frondicare_next_step(*const u8, ..geometry, boot_signed: bool, update_signed: bool) -> RawAnswer;
     fn frondicare_trigger(*const u8, ..geometry) -> RawAnswer;
     fn frondicare_confirm(*const u8, ..geometry) -> RawAnswer;
+    fn frondicare_boot_state(*const u8, ..geometry) -> SlotState;
+    fn frondicare_update_state(*const u8, ..geometry) -> SlotState;
+    fn frondicare_in_mid_swap(*const u8, ..geometry) -> bool;
     fn frondicare_run(
-        *mut u8, ..geometry, boot_signed: bool, update_signed: bool, number: u32, counts: *mut Counts
+        *mut u8, ..geometry, boot_signed: bool, update_signed: bool, most_steps: u32, counts: *mut Counts
     ) -> RawAnswer;
 }

@@ -34,6 +34,10 @@ pub fn find_tag(header: &[u8], kind: u16) -> Tag {
     unsafe { frondicare_find_tag(header.as_ptr(), header.len(), kind) }
 }
 
+pub fn version_of(image: &[u8]) -> Version {
+    unsafe { frondicare_version_of(image.as_ptr(), image.len()) }
+}
+
 /// The number answered and the buffer afterwards.
 pub fn digest_to_sign(parts: &Parts) -> (u32, [u8; 32]) {
     let Parts { fields, firmware, custom, hint } = *parts;

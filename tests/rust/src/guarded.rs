@@ -1,11 +1,13 @@
 //! A flash on which the library and the plain implementation decide the same and carry out the same steps.
-use crate::answers::{Answer, RawAnswer};
+use crate::answers::Answer;
 use crate::decisions::{self, Signed};
-use crate::flash::Geometry;
+use crate::flash::{Geometry, Slot};
 use crate::frondicare::{self, PAINT};
 use crate::raw_step::RawStep;
 use crate::runs::{self, Counts};
+use crate::states::{self, SlotState};
 use crate::{loader, requests, runner};
+use std::fmt::Debug;
 
 /// Bytes before and after a flash that are not lent: more than a sector.
 const GUARD: usize = 4096 + 64;
@@ -76,7 +78,11 @@ impl Guarded {
     }
 
     /// The plain answer. The library's is the same in every field, and leaves every byte as it is.
-    fn same_answer(&self, geometry: &Geometry, plain: Answer, proved: impl Fn(&[u8]) -> RawAnswer) -> Answer {
+    fn same<T, R>(&self, geometry: &Geometry, plain: T, proved: impl Fn(&[u8]) -> R) -> T
+    where
+        T: Copy + Debug + Into<R>,
+        R: PartialEq + Debug,
+    {
         let before = self.bytes.clone();
         let answer = proved(self.flash());
         assert_eq!(answer, plain.into(), "{geometry:?}, flash of {}, {plain:?}", self.len);
@@ -86,16 +92,26 @@ impl Guarded {
 
     pub fn next_step(&self, geometry: &Geometry, signed: Signed) -> Answer {
         let plain = decisions::next_step(self.flash(), geometry, signed);
-        self.same_answer(geometry, plain, |flash| loader::next_step(flash, geometry, signed))
+        self.same(geometry, plain, |flash| loader::next_step(flash, geometry, signed))
     }
 
     pub fn trigger(&self, geometry: &Geometry) -> Answer {
         let plain = requests::trigger(self.flash(), geometry);
-        self.same_answer(geometry, plain, |flash| loader::trigger(flash, geometry))
+        self.same(geometry, plain, |flash| loader::trigger(flash, geometry))
     }
 
     pub fn confirm(&self, geometry: &Geometry) -> Answer {
         let plain = requests::confirm(self.flash(), geometry);
-        self.same_answer(geometry, plain, |flash| loader::confirm(flash, geometry))
+        self.same(geometry, plain, |flash| loader::confirm(flash, geometry))
+    }
+
+    pub fn slot_state(&self, geometry: &Geometry, slot: Slot) -> SlotState {
+        let plain = states::slot_state(self.flash(), geometry, slot);
+        self.same(geometry, plain, |flash| loader::slot_state(flash, geometry, slot))
+    }
+
+    pub fn in_mid_swap(&self, geometry: &Geometry) -> bool {
+        let plain = states::in_mid_swap(self.flash(), geometry);
+        self.same(geometry, plain, |flash| loader::in_mid_swap(flash, geometry))
     }
 }

@@ -26,6 +26,7 @@ pub mod runs;
 pub mod seen;
 pub mod sha256;
 pub mod staged;
+pub mod states;
 pub mod totals;
 pub mod trailers;
 pub mod writer;

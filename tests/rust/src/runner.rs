@@ -1,7 +1,7 @@
 //! The runner's entries, called on slices.
 use crate::answers::RawAnswer;
 use crate::decisions::Signed;
-use crate::entries::{frondicare_add_step, frondicare_run};
+use crate::entries::{frondicare_add_step, frondicare_most_steps, frondicare_run};
 use crate::flash::Geometry;
 use crate::frondicare::PAINT;
 use crate::runs::Counts;
@@ -44,6 +44,10 @@ pub fn run(flash: &mut [u8], geometry: &Geometry, signed: Signed, number: u32, c
             counts,
         )
     })
+}
+
+pub fn most_steps(sector_count: usize) -> u32 {
+    unsafe { frondicare_most_steps(sector_count) }
 }
 
 pub fn add_step(counts: &mut Counts, op: u32) -> u32 {

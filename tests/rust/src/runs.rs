@@ -89,6 +89,14 @@ pub fn run(flash: &mut [u8], geometry: &Geometry, signed: Signed, number: u32, c
     next_step(flash, geometry, signed)
 }
 
+/// The most steps of a run, an update that is found begun and the return after it; 0 where n is not 1 to 64.
+pub fn most_steps(sector_count: usize) -> u32 {
+    match sector_count {
+        1..=64 => 2 * (9 * sector_count as u32 + 4),
+        _ => 0,
+    }
+}
+
 /// Adds a finished step of a kind: 0 erase, 1 copy, 2 byte, 3 mark. 24, then 28; a refusal changes nothing.
 pub fn add_step(counts: &mut Counts, op: u32) -> u32 {
     let step = match op {

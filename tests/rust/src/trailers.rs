@@ -55,8 +55,16 @@ pub fn progress(areas: &Areas, flash: &[u8]) -> Result<usize, u32> {
     }
 }
 
+fn all(areas: &Areas, flash: &[u8], value: u8) -> bool {
+    (0..areas.sector_count).all(|i| flag(areas, flash, i) == value)
+}
+
 pub fn all_new(areas: &Areas, flash: &[u8]) -> bool {
-    (0..areas.sector_count).all(|i| flag(areas, flash, i) == NEW)
+    all(areas, flash, NEW)
+}
+
+pub fn all_updated(areas: &Areas, flash: &[u8]) -> bool {
+    all(areas, flash, UPDATED)
 }
 
 /// The next change of flags after so many; none after the last. The flags themselves are not checked.

@@ -1,4 +1,4 @@
-//! The library's next step against the plain one, for every flag that a sector can have.
+//! The library's next step and mid-swap against the plain ones, for every flag that a sector can have.
 use frondicare_tests::answers::Answer;
 use frondicare_tests::decisions::Signed;
 use frondicare_tests::flash::{Geometry, Step};
@@ -35,22 +35,25 @@ fn every_flag_byte() {
             (None, 0x00) => Answer::Step(Step::Erase { at: 512 }),
             _ => Answer::Refused(20),
         };
-        assert_eq!(Guarded::new(&flash, 0).next_step(&G, SIGNED), expected, "flag byte {value:02x}");
+        let flash = Guarded::new(&flash, 0);
+        assert_eq!(flash.next_step(&G, SIGNED), expected, "flag byte {value:02x}");
+        assert_eq!(flash.in_mid_swap(&G), value != 0xff && value != 0x00, "flag byte {value:02x}");
     }
 }
 
 /// Three sectors and the spare half: every two bytes. Ten values of the progress are well formed, with sixteen spare
-/// halves each.
+/// halves each; of these all F and all 0 are not mid-swap.
 #[test]
 fn every_three_flags() {
     let geometry = Geometry { sector_size: 256, sector_count: 3, boot: 0, update: 1024, swap: 2048 };
     let mut random = Random::new();
     let mut flash = updating(&mut random, &geometry, 2304);
-    let mut well_formed = 0;
+    let (mut well_formed, mut at_rest) = (0, 0);
     for flags in 0..=0xffffu16 {
         flash[2041..2043].copy_from_slice(&flags.to_be_bytes());
-        let answer = Guarded::new(&flash, 0).next_step(&geometry, SIGNED);
-        well_formed += usize::from(answer != Answer::Refused(20));
+        let flash = Guarded::new(&flash, 0);
+        well_formed += usize::from(flash.next_step(&geometry, SIGNED) != Answer::Refused(20));
+        at_rest += usize::from(!flash.in_mid_swap(&geometry));
     }
-    assert_eq!(well_formed, 160);
+    assert_eq!((well_formed, at_rest), (160, 32));
 }

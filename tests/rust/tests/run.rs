@@ -75,6 +75,26 @@ fn any_run() {
     }
 }
 
+/// For every n, also where it is none. With that number no run is left with a step due, and many need more than one
+/// swap, 9n + 4 steps.
+#[test]
+fn most_steps() {
+    let powers = (0..64).flat_map(|i| [(1usize << i) - 1, 1 << i, (1 << i) + 1]);
+    for n in (0..1000).chain(powers).chain([usize::MAX]) {
+        assert_eq!(runner::most_steps(n), runs::most_steps(n), "n {n}");
+    }
+    assert_eq!([0, 1, 2, 64, 65].map(runner::most_steps), [0, 26, 44, 1160, 0]);
+    let (mut random, mut of_two_swaps) = (Random::new(), 0);
+    for _ in 0..10_000 {
+        let Board { geometry, flash, signed } = boards::for_a_run(&mut random);
+        let (number, mut counts) = (runner::most_steps(geometry.sector_count), Counts::default());
+        let answer = Guarded::new(&flash, 0).run(&geometry, signed, number, &mut counts);
+        assert_eq!(answer.step(), None, "{geometry:?}, {signed:?}: {number} steps are not enough");
+        of_two_swaps += usize::from(2 * counts.since(&Counts::default()) > number as usize);
+    }
+    assert!(of_two_swaps > 100, "only {of_two_swaps} runs of more than one swap");
+}
+
 /// Every kind of step, and numbers that are none, with every counter below, at and above the limit.
 #[test]
 fn add_step() {
