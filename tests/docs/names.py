@@ -14,7 +14,7 @@ PATH = re.compile(r"(?:[\w.*-]+/)+[\w.*-]*|[\w*-]+\.(?:md|txt|py|rt|rs|c|h|sh|sv
 EDITS = re.compile(r"\bedits? (`\w+`(?:, `\w+`)*)")
 WORD = re.compile(r"[\w'-]+")
 BUILT = ("target/", "./", "rt ")  # what is not tracked, and commands
-SOURCES = ["crates/*.rt", "crates/*.antt", "*.edit", "include/frondicare.h", "tests/rust/tests/*.rs", "frondicare"]
+SOURCES = ["crates/*.rt", "crates/*.antt", "*.edit", "include/*.h", "tests/rust/tests/*.rs", "commands/*.py"]
 
 
 def read(path):
