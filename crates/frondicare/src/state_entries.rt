@@ -9,8 +9,11 @@ use crate::flash_entries::geometry_of;
 use slots::Slot;
 use slots::SlotState;
 
-// The state byte of a sound trailer. It is 256, which is no byte, where the trailer is not sound or the
-// geometry is refused; number says which of the two.
+// No byte, so that it is never taken for a state.
+const NO_STATE: u32 = 256;
+
+// The state byte of a sound trailer; NO_STATE where it is not sound, or where number says why the geometry
+// is refused.
 #[repr(C)]
 pub struct FlatState {
     pub number: u32,
@@ -27,9 +30,12 @@ fn flat_state(state: SlotState) -> FlatState
         },
         SlotState::NotSound => FlatState {
             number: 0,
-            state: 256,
+            state: NO_STATE,
         },
-        SlotState::Refused(number) => FlatState { number, state: 256 },
+        SlotState::Refused(number) => FlatState {
+            number,
+            state: NO_STATE,
+        },
     }
 }
 
