@@ -1,6 +1,7 @@
 #!/usr/bin/env python3
-"""Holds docs/RULES.md to the tree: the sections that comments name are there, its numbers are those that C gets, the
-files and definitions that it names exist, and the simulator's example is the stored one."""
+"""Holds docs/RULES.md to the tree: the sections that comments name are there, its numbers are those that C gets, in the
+same words and each with a name, the files and definitions that it names exist, and the simulator's example is the
+stored one."""
 import re
 import sys
 from pathlib import Path
@@ -57,15 +58,36 @@ def numbers_in(text):
     return {number for bound in bounds for number in range(bound[0], bound[-1] + 1)}
 
 
-def check_numbers(rules):
-    """In the table a number begins a row; in the C header it has a colon behind it, and 0 is no refusal."""
+def numbers_given_back(rules):
+    """The rows of the table: a number, what it is in words, and when it is given."""
     section = rules.split("\n## Numbers given back\n")[1].split("\nThe first that applies")[0]
-    rows = re.findall(r"^\| (\d[\d, ]*) \| (.*)", section, re.MULTILINE)
-    listed = set().union(*(numbers_in(numbers) for numbers, when in rows if "simulator only" not in when))
+    rows = re.findall(r"^\| (\d+) \| ([^|]*) \| (.*) \|$", section, re.MULTILINE)
+    return [(int(number), words, when) for number, words, when in rows]
+
+
+def check_numbers(rules):
+    """In the C header a number has a colon behind it, and 0 is no refusal."""
+    listed = {number for number, _, when in numbers_given_back(rules) if "simulator only" not in when}
     header = MARKERS.sub(" ", read("include/frondicare.h"))
     told = set().union(*map(numbers_in, re.findall(r"\b(\d+(?:(?:, | to )\d+)*): ", header))) - {0}
     yield from (f"include/frondicare.h doesn't tell {number}" for number in sorted(listed - told))
     yield from (f"include/frondicare.h tells {number}, which is not in the table" for number in sorted(told - listed))
+
+
+def check_words(rules):
+    """Every number has its words and its name in C, and no other has, but for 0."""
+    if "\n| No. | In words | When |\n" not in rules:
+        yield "the table of numbers has other columns"
+    said = {int(n): words for n, words in re.findall(r'case (\d+): return "(.*)";', read("include/frondicare_words.h"))}
+    named = re.search(r"\nenum frondicare_number \{\n(.*?)\n\};\n", read("include/frondicare.h"), re.DOTALL)[1]
+    expected = sorted({0} | {number for number, *_ in numbers_given_back(rules)})
+    if sorted(said) != expected:
+        yield f"include/frondicare_words.h has words for {sorted(said)}, and the table has {expected}"
+    if sorted(map(int, re.findall(r"\bFRONDICARE_\w+ = (\d+)\b", named))) != expected:
+        yield f"include/frondicare.h: enum frondicare_number has other numbers than the table, {expected}"
+    for number, words, _ in numbers_given_back(rules):
+        if words != said.get(number):
+            yield f"{number} in words: '{words}', and in include/frondicare_words.h '{said.get(number)}'"
 
 
 def check_names(rules):
@@ -91,8 +113,9 @@ def check_example(rules):
 
 def main():
     rules = read("docs/RULES.md")
-    wrong = [line for check in (check_sections, check_numbers, check_names, check_example) for line in check(rules)]
-    print(*wrong or ["docs/RULES.md: what it names is there, and its numbers and example are right"], sep="\n")
+    checks = check_sections, check_numbers, check_words, check_names, check_example
+    wrong = [line for check in checks for line in check(rules)]
+    print(*wrong or ["docs/RULES.md: what it names is there, and its numbers, words and example are right"], sep="\n")
     sys.exit(bool(wrong))
 
 
