@@ -4,6 +4,7 @@
 #include <stdlib.h>
 
 #include "frondicare.h"
+#include "frondicare_words.h"
 
 int main(int argc, char **argv)
 {
@@ -11,11 +12,11 @@ int main(int argc, char **argv)
         fprintf(stderr, "usage: tag TYPE <HEADER\n");
         return 1;
     }
-    uint8_t header[256];
+    uint8_t header[FRONDICARE_HEADER_SIZE];
     size_t len = fread(header, 1, sizeof header, stdin);
     frondicare_tag tag = frondicare_find_tag(header, len, (uint16_t)strtoul(argv[1], NULL, 16));
     if (tag.number != 0) {
-        fprintf(stderr, "tag %s: %u\n", argv[1], (unsigned)tag.number);
+        fprintf(stderr, "tag %s: %s (%u)\n", argv[1], frondicare_in_words(tag.number), (unsigned)tag.number);
         return 1;
     }
     fwrite(header + tag.at, 1, tag.len, stdout);

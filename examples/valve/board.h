@@ -2,6 +2,8 @@
 #ifndef BOARD_H
 #define BOARD_H
 
+#include "frondicare_geometry.h"
+
 /* The tests build a board of small sectors too. */
 #ifndef SECTOR_SIZE
 #define SECTOR_SIZE 4096
@@ -20,7 +22,7 @@ enum {
     FLASH_SIZE = WATERING_LOG + SECTOR_SIZE
 };
 
-/* These numbers in the order in which frondicare.h takes them. */
-#define GEOMETRY FLASH_SIZE, SECTOR_SIZE, SECTOR_COUNT, BOOT, UPDATE, SWAP
+/* The same for the library. */
+extern const frondicare_geometry board;
 
 #endif

@@ -1,9 +1,6 @@
 #include "checker.h"
 #include "board.h"
-#include "frondicare.h"
 #include <string.h>
-
-enum { DIGEST = 0x0003, SIGNATURE = 0x0020 };
 
 void sign(const uint8_t digest[32], uint8_t signature[64])
 {
@@ -19,8 +16,8 @@ static bool is_signature_of(const uint8_t signature[64], const uint8_t digest[32
 
 bool is_signed(const uint8_t *image)
 {
-    frondicare_tag digest = frondicare_find_tag(image, IMAGE_SIZE, DIGEST);
-    frondicare_tag signature = frondicare_find_tag(image, IMAGE_SIZE, SIGNATURE);
+    frondicare_tag digest = frondicare_find_tag(image, IMAGE_SIZE, FRONDICARE_TAG_DIGEST);
+    frondicare_tag signature = frondicare_find_tag(image, IMAGE_SIZE, FRONDICARE_TAG_SIGNATURE);
     return digest.number == 0 && digest.len == 32 && signature.number == 0 && signature.len == 64
         && is_signature_of(image + signature.at, image + digest.at);
 }

@@ -18,9 +18,9 @@ static void copy_sector(size_t from, size_t to)
 
 void carry_out(frondicare_answer step)
 {
-    static const uint8_t closing[4] = { 0x42, 0x4f, 0x4f, 0x54 };
+    static const uint8_t closing[] = FRONDICARE_CLOSING_BYTES;
     uint8_t value = (uint8_t)step.value;
-    switch (step.op) {
+    switch ((enum frondicare_op)step.op) {
     case FRONDICARE_ERASE:
         flash_erase(step.at);
         break;
@@ -33,8 +33,6 @@ void carry_out(frondicare_answer step)
     case FRONDICARE_MARK:
         flash_program(step.at, closing, sizeof closing);
         break;
-    default: /* the library answers no other */
-        break;
     }
 }
 
@@ -42,7 +40,7 @@ void carry_out(frondicare_answer step)
  * these answers. frondicare.h says how a slow checker is asked less often. */
 static frondicare_answer next_step(void)
 {
-    return frondicare_next_step(flash, GEOMETRY, is_signed(flash + BOOT), is_signed(flash + UPDATE));
+    return frondicare_next_step_on(flash, &board, is_signed(flash + BOOT), is_signed(flash + UPDATE));
 }
 
 frondicare_answer power_up(uint32_t most_steps, frondicare_step_counts *counts)

@@ -4,15 +4,10 @@
 #define LOADER_H
 
 #include "board.h"
-#include "frondicare.h"
-
-/* No power-up takes more steps, whatever the flash holds: a swap that is found under way, and a return. One that does
- * has a flash that doesn't take what is written. */
-enum { MOST_STEPS = 2 * (9 * SECTOR_COUNT + 4) };
 
 /* At power-up, before anything else. Boot: the image in BOOT is to be started. Refused: there is none to be started;
  * but 28, of memory_loader.c alone: the record is full, and the caller clears it and asks again. Where so many steps
- * are not enough, the one that is due. */
+ * are not enough, the one that is due; after frondicare_most_steps the flash doesn't take what is written. */
 frondicare_answer power_up(uint32_t most_steps, frondicare_step_counts *counts);
 
 void carry_out(frondicare_answer step);

@@ -3,14 +3,17 @@
 #include "flash.h"
 #include "loader.h"
 
+/* No request takes more steps. */
+enum { MOST_STEPS = 3 };
+
 static frondicare_answer ask_trigger(void)
 {
-    return frondicare_trigger(flash, GEOMETRY);
+    return frondicare_trigger_on(flash, &board);
 }
 
 static frondicare_answer ask_confirm(void)
 {
-    return frondicare_confirm(flash, GEOMETRY);
+    return frondicare_confirm_on(flash, &board);
 }
 
 /* Trigger is asked here already: where it refuses, UPDATE has the image to return to. The trailer is erased first, so

@@ -6,7 +6,7 @@
 #include <stddef.h>
 #include <stdint.h>
 
-enum { HEADER = 256, LONGEST_IMAGE = HEADER + IMAGE_SIZE };
+enum { LONGEST_IMAGE = FRONDICARE_HEADER_SIZE + IMAGE_SIZE };
 
 /* The image with so many bytes of firmware, up to one header too many for a slot. */
 void make_image(uint8_t image[LONGEST_IMAGE], uint32_t version, size_t firmware_len);

@@ -1,7 +1,6 @@
 /* Simulated by a file that is mapped for writing. */
 #include "simulation/memory_flash.h"
 #include "board.h"
-#include "frondicare.h"
 #include "simulation/file.h"
 #include <sys/mman.h>
 
@@ -17,7 +16,8 @@ void flash_open(const char *path)
 /* As a run erases. */
 void flash_erase(size_t at)
 {
-    frondicare_apply_step(memory_flash, GEOMETRY, FRONDICARE_ERASE, at, 0, 0);
+    frondicare_answer step = { .kind = FRONDICARE_STEP, .op = FRONDICARE_ERASE, .at = at };
+    frondicare_carry_out_on(memory_flash, &board, step);
 }
 
 void flash_program(size_t at, const uint8_t *data, size_t len)

@@ -10,6 +10,7 @@
  *
  * Status: 0 done, 1 refused, 2 the command is wrong, 3 power lost, 4 the steps were not enough. */
 #include "flash.h"
+#include "frondicare_words.h"
 #include "loader.h"
 #include "requests.h"
 #include "simulation/file.h"
@@ -19,7 +20,7 @@
 #include <string.h>
 
 enum { DONE = 0, REFUSED = 1, NOT_ENOUGH = 4 };
-enum { PIECE = 100, VERSION = 0x0001 };
+enum { HEADER = FRONDICARE_HEADER_SIZE, PIECE = 100 };
 
 static uint8_t image[LONGEST_IMAGE];
 static frondicare_step_counts counts;
@@ -62,7 +63,7 @@ static int tell(frondicare_answer a)
         printf("stopped before a step\n");
         return NOT_ENOUGH;
     }
-    printf("refused: %u\n", a.number);
+    printf("refused: %s (%u)\n", frondicare_in_words(a.number), a.number);
     return REFUSED;
 }
 
@@ -89,23 +90,13 @@ static int stage(size_t len)
     return status == DONE ? tell(trigger(&counts)) : status;
 }
 
-static uint32_t version_of(const uint8_t *slot)
-{
-    const uint8_t *content = slot + frondicare_find_tag(slot, IMAGE_SIZE, VERSION).at;
-    uint32_t version = 0;
-    int i;
-    for (i = 3; i >= 0; i--)
-        version = version << 8 | content[i];
-    return version;
-}
-
 /* A real loader jumps to the firmware, at BOOT + 256. */
 static int start(uint32_t passed_over)
 {
-    bool on_trial = frondicare_confirm(flash, GEOMETRY).kind == FRONDICARE_STEP;
-    printf("boots version %u%s", version_of(flash + BOOT), on_trial ? ", on trial" : "");
-    if (passed_over != 0)
-        printf(", update passed over: %u", passed_over);
+    bool on_trial = frondicare_boot_state_on(flash, &board).state == FRONDICARE_STATE_ON_TRIAL;
+    printf("boots version %u%s", frondicare_version_of(flash + BOOT, IMAGE_SIZE).version, on_trial ? ", on trial" : "");
+    if (passed_over != FRONDICARE_OK)
+        printf(", update passed over: %s (%u)", frondicare_in_words(passed_over), passed_over);
     printf("\n");
     return DONE;
 }
@@ -122,7 +113,7 @@ static int command(int count, char **words)
     size_t len;
     atexit(print_counts);
     if (count == 1 && strcmp(words[0], "power-up") == 0)
-        return switch_on(MOST_STEPS);
+        return switch_on(frondicare_most_steps(SECTOR_COUNT));
     if (count == 2 && strcmp(words[0], "power-up") == 0)
         return switch_on(number_in(words[1]));
     if (count == 1 && strcmp(words[0], "confirm") == 0)

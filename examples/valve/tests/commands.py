@@ -1,5 +1,6 @@
 """What each loader starts and refuses. No power is lost here."""
-from valve import DONE, HEADER, NOT_ENOUGH, REFUSED, Done, says
+from model.refusals import in_words
+from valve import DONE, HEADER, NOT_ENOUGH, REFUSED, Done, refused, says
 
 NO_STEPS = (0, 0, 0, 0)
 SIGNATURE = 110, 173  # its first and its last place, in a header without custom tags
@@ -33,9 +34,9 @@ def updated_and_returned(valve, chance):
 def confirmed(valve, chance):
     """Until then UPDATE has the image to return to, and nothing is staged there."""
     new = valve.new(chance)
-    check_untouched(valve, new, ["confirm"], "refused: 23", REFUSED)
+    check_untouched(valve, new, ["confirm"], refused(23), REFUSED)
     updated = says(valve.power_up(valve.stage(new, 2)), "boots version 2, on trial")
-    check_untouched(valve, updated, ["stage", 3, 1], "refused: 21", REFUSED)
+    check_untouched(valve, updated, ["stage", 3, 1], refused(21), REFUSED)
     flash = says(valve.run(updated, "confirm"), "")
     check_untouched(valve, flash, ["power-up"], "boots version 2")
     check_untouched(valve, flash, ["confirm"], "")
@@ -49,12 +50,12 @@ def passed_over(valve, chance):
     boards = [(changed(staged, valve.update + HEADER), 17), (valve.stage(new, 1), 19)]
     boards += [(changed(staged, valve.update + at), 18) for at in SIGNATURE]
     for flash, number in boards:
-        check_untouched(valve, flash, ["power-up"], f"boots version 1, update passed over: {number}")
+        check_untouched(valve, flash, ["power-up"], f"boots version 1, update passed over: {in_words(number)}")
 
 
 def check_not_triggered(valve, flash, number):
     """What was received is refused with this number, and no update is considered."""
-    check_untouched(valve, flash, ["trigger"], f"refused: {number}", REFUSED)
+    check_untouched(valve, flash, ["trigger"], refused(number), REFUSED)
     check_untouched(valve, flash, ["power-up"], "boots version 1")
 
 
@@ -84,19 +85,19 @@ def too_long(valve, chance):
 def boot_damaged(valve, chance):
     """It is refused where nothing is staged; an update is the way out of it, and there is no return."""
     new = changed(valve.new(chance), valve.boot, HEADER)
-    check_untouched(valve, new, ["power-up"], "refused: 11", REFUSED)
+    check_untouched(valve, new, ["power-up"], refused(11), REFUSED)
     staged, steps = valve.stage(new, 2), 0
     while (done := valve.power_up(staged, steps=steps)).status == NOT_ENOUGH:
         says(valve.power_up(done.flash), "boots version 2, on trial")
         steps += 1
     assert steps > valve.most_steps / 2, steps
-    check_untouched(valve, done.flash, ["power-up"], "boots version 2, on trial, update passed over: 11")
+    check_untouched(valve, done.flash, ["power-up"], f"boots version 2, on trial, update passed over: {in_words(11)}")
 
 
 def trailer_damaged(valve, chance):
     """Ill-formed flags are refused; an unsound trailer doesn't keep an image on trial from being returned from."""
     trailer = valve.update + valve.image_size
     staged = valve.stage(valve.new(chance), 2)
-    check_untouched(valve, written(staged, trailer + valve.sector - 6, b"\xF5"), ["power-up"], "refused: 20", REFUSED)
+    check_untouched(valve, written(staged, trailer + valve.sector - 6, b"\xF5"), ["power-up"], refused(20), REFUSED)
     updated = valve.power_up(staged).flash
     says(valve.power_up(written(updated, trailer, chance.randbytes(valve.sector))), "boots version 1, on trial")

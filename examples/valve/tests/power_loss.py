@@ -1,7 +1,7 @@
 """Power loss, while the valve has a driver to its flash. Either loader goes on with what the other one left."""
 from commands import SIGNATURE, changed
 from power_ups import PowerUps, check_cut, step_by_step
-from valve import DONE, HEADER, NOT_ENOUGH, POWER_LOST, REFUSED, UPDATING, says
+from valve import DONE, HEADER, NOT_ENOUGH, POWER_LOST, REFUSED, UPDATING, refused, says
 
 HISTORIES = 8
 
@@ -110,7 +110,7 @@ def damaged_in_mid_swap(driver, memory, chance):
 def worn_out(driver, memory, chance):
     """A byte isn't written any more. Of UPDATE: the image is refused. Of BOOT: the loader gives up; nothing is lost."""
     new = driver.new(chance)
-    says(driver.run(new, "stage", 2, 1, WORN=driver.update), "refused: 11", REFUSED)
+    says(driver.run(new, "stage", 2, 1, WORN=driver.update), refused(11), REFUSED)
     staged = driver.stage(new, 2)
     done = driver.run(staged, "power-up", WORN=driver.boot)
     assert (done.status, sum(done.counts)) == (NOT_ENOUGH, 2 * driver.most_steps), done

@@ -8,6 +8,8 @@ import sys
 import time
 from pathlib import Path
 
+if __name__ == "__main__":
+    sys.path.append(str(Path(__file__).resolve().parents[3]))
 import commands
 import power_loss
 from valve import Valve

@@ -5,6 +5,8 @@ import tempfile
 from pathlib import Path
 from typing import NamedTuple
 
+from model.refusals import in_words
+
 DONE, REFUSED, POWER_LOST, NOT_ENOUGH = 0, 1, 3, 4
 UPDATING, SPENT, ON_TRIAL = 0x70, 0x30, 0x10
 CLOSING = b"\x42\x4F\x4F\x54"
@@ -73,6 +75,11 @@ class Valve:
     def stage(self, flash, version, length=None):
         """With as much firmware as there is room for, unless a length is given."""
         return says(self.run(flash, "stage", version, self.image_size - HEADER if length is None else length), "")
+
+
+def refused(number):
+    """What a command says that is refused with this number."""
+    return f"refused: {in_words(number)}"
 
 
 def says(done, text, status=DONE):
