@@ -1,9 +1,12 @@
 /* Frondicare's loader, callable from C: an update is swapped in, and back where it isn't confirmed, and power may be
- * lost at any moment. Link libfrondicare.a (tools/rt staticlib frondicare makes it), today for x86-64 only.
- * frondicare_geometry.h has the six numbers of a flash as one struct, and each entry that takes them as NAME_on;
+ * lost at any moment. The flash has three areas: BOOT, which is started; UPDATE, with the image to come or to return
+ * to; and SWAP, a sector to exchange them by. Link libfrondicare.a (tools/rt staticlib frondicare makes it), today for
+ * x86-64 only. frondicare_geometry.h has a flash's six numbers as a struct, and each entry that takes them as NAME_on;
  * frondicare_words.h has numbers in words; examples/valve/ is a whole loader.
  *
  * At power-up, where a driver writes the flash: ask for the next step and carry it out, until there is none.
+ *
+ *     #include "frondicare_geometry.h"
  *
  *     static const frondicare_geometry board = { FLASH_SIZE, SECTOR_SIZE, SECTOR_COUNT, BOOT, UPDATE, SWAP };
  *
@@ -32,8 +35,8 @@
  *     }
  *
  * Where the flash is memory, a run does all steps in one call. But it goes by the checker's answers from its start, and
- * a swap that was cut has no whole slot to check; so such a swap is finished first, a step at a time, and no answer is
- * looked at. Without that loop a good update is lost where it was cut.
+ * of a swap that was cut no slot may be whole to be checked: such a swap is finished first, a step at a time, and no
+ * answer is looked at. (Without that loop a good update that was cut may be undone.)
  *
  *     bool power_up_by_run(void)
  *     {
@@ -47,32 +50,35 @@
  *     }
  *
  * True: start the image in BOOT, and don't ask again before the next power-up: after an update it is on trial, and the
- * loader would begin the return. False: a.number says why none can be started; or a.kind is a step still, and the flash
- * doesn't take what is written.
+ * loader would begin the return. False: none can be started, and a.number says why; or a.kind is a step still, and the
+ * flash doesn't take what is written. The board's own are flash, its driver, and is_signed: what the signature checker
+ * says of the digest in the header at an offset. Check the board's numbers once: frondicare_check_geometry_on.
  *
- * To update: ask frondicare_trigger. Where it refuses, leave UPDATE alone, since it may hold the image to return to.
- * Otherwise erase UPDATE, its trailer first, and write the image there with the flash's own driver. Verify it where it
- * lies (frondicare_verify); if it passes, ask frondicare_trigger and carry out its step, until it answers
- * FRONDICARE_FINISHED. The next power-up swaps the image in.
+ * To update: ask frondicare_trigger, and carry nothing out yet. Where it refuses, leave UPDATE alone, since it may hold
+ * the image to return to. Otherwise erase UPDATE, its trailer first, and write the image there with the flash's own
+ * driver. Verify it where it lies (frondicare_verify); if it passes, ask frondicare_trigger and carry out its step,
+ * until it answers FRONDICARE_FINISHED. The next power-up swaps the image in.
  * To confirm: the image on trial asks frondicare_confirm and carries out the step. Otherwise the next power-up returns
  * to the image before it, where that one passes; it is on trial then too.
  *
- * What a call does: every entry is proved against its contract in crates/frondicare/src. It ends, reads and writes only
- * what it was lent, allocates and keeps nothing, and answers numbers of document 01 ("Numbers given back"), 0 for none.
- * A refusal writes nothing; only a run may refuse after it has done steps, and these stay done.
- * What a caller owes: a pointer and its length describe memory that can be read, a flash's too; where the length is 0,
- * the pointer may be null. A hint and a digest are 32 bytes, a signature is 64. What is taken without const can be
- * written too, and no other argument reaches it. Nobody else writes any of it during a call. Arguments that are only
- * read may overlap. A bool is true or false. Every number is accepted.
- * What the flash owes, where power is lost: a byte or a mark is written or not begun; an erase or a copy changes
- * nothing outside its sector; and a cut erase never leaves 42 4F 4F 54 at a slot's end.
- * What the checker owes: of the same image always the same. boot_signed and update_signed are what it says of the
- * images in BOOT and UPDATE: of the slots as they are, but in mid-swap, where they aren't looked at before the swap is
- * over, of the slots before that swap. So a caller of frondicare_next_step checks both slots before each call, or keeps
- * the answers and exchanges them when a step makes the last flag 0; a run does that itself.
- * What the machine owes: the System V ABI. The stack pointer is a multiple of 16 at a call, an interrupt leaves the 128
- * bytes below it alone, and SSE2 registers can be used. A call takes at most 1,536 bytes of stack (a run; others
- * less: bench/RESULTS.md). The code has 24 KB at most, no data that is written, and calls memset and nothing else. */
+ * The rules:
+ * - A call: every entry is proved against its contract in crates/frondicare/src. It ends, reads and writes only what it
+ *   was lent, allocates and keeps nothing, and answers numbers of document 01 ("Numbers given back"), 0 for none. A
+ *   refusal writes nothing; only a run may refuse after it has done steps, and these stay done.
+ * - The caller: a pointer and its length describe memory that can be read, a flash's too; the pointer may be null where
+ *   that length is 0, and no other may. A hint and a digest are 32 bytes, a signature is 64. What is taken without
+ *   const can be written too, and no other argument reaches it. Nobody else writes any of it during a call. Arguments
+ *   that are only read may overlap. A bool is true or false. Every number is accepted.
+ * - The flash: what reads as all FF is erased; a byte can be written again, to clear more of its bits (one with flags
+ *   is, up to six times). Where power is lost, a byte or a mark is written or not begun; an erase or a copy changes
+ *   nothing outside its sector; and a cut erase never leaves 42 4F 4F 54 at a slot's end.
+ * - The signature checker: of the same image it says always the same. boot_signed and update_signed are what it says of
+ *   the slots as they are; but in mid-swap of the slots before that swap, and no call looks at them before it is over.
+ *   So a caller of frondicare_next_step checks both slots before each call, or keeps the answers and exchanges them
+ *   when a step makes the last flag 0; a run does that itself.
+ * - The machine, by the System V ABI: the stack pointer is a multiple of 16 at a call, an interrupt leaves the 128
+ *   bytes below it alone, SSE2 registers can be used. A call takes at most 1,536 bytes of stack (a run; the others are
+ *   in bench/RESULTS.md). The code has 24 KB at most, no data that is written, and calls memset and nothing else. */
 #ifndef FRONDICARE_H
 #define FRONDICARE_H
 
@@ -80,7 +86,7 @@
 #include <stddef.h>
 #include <stdint.h>
 
-/* What changed in which version: CHANGELOG.md. The number, for #if, is 10000, 100 and 1 times the three. */
+/* What changed in which version: CHANGELOG.md. The number is for #if: 1.2.3 is 10203. */
 #define FRONDICARE_VERSION "0.3.0"
 #define FRONDICARE_VERSION_NUMBER 300
 
@@ -98,7 +104,7 @@ extern "C" {
 /* The kinds of an answer. */
 enum frondicare_kind {
     FRONDICARE_STEP = 0,
-    FRONDICARE_LAST_STEP = 1, /* the boot follows at once */
+    FRONDICARE_LAST_STEP = 1, /* a step, and the boot follows at once */
     FRONDICARE_BOOT = 2,
     FRONDICARE_REFUSED = 3,
     FRONDICARE_FINISHED = 4 /* of trigger and confirm: nothing is left to be done */
@@ -130,30 +136,30 @@ typedef struct {
     uint32_t marks;
 } frondicare_step_counts;
 
-/* The states of a slot, the byte before its closing bytes. Any other byte counts as none of these. */
+/* The states that a slot is sound with. Any other byte counts as none of these. */
 enum frondicare_state {
     FRONDICARE_STATE_NEW = 0xff,
     FRONDICARE_STATE_UPDATING = 0x70,  /* UPDATE: triggered; the swap is due or under way */
     FRONDICARE_STATE_SPENT = 0x30,     /* UPDATE: its swap is over */
-    FRONDICARE_STATE_ON_TRIAL = 0x10,  /* BOOT: not confirmed, it is returned from at the next power-up */
+    FRONDICARE_STATE_ON_TRIAL = 0x10,  /* BOOT: not confirmed, it gives way at the next power-up if UPDATE passes */
     FRONDICARE_STATE_CONFIRMED = 0x00, /* BOOT: it stays */
-    FRONDICARE_STATE_UNSOUND = 0x100   /* no byte: the closing bytes are missing */
+    FRONDICARE_STATE_UNSOUND = 0x100   /* no byte: the slot is not sound, it doesn't end in the closing bytes */
 };
 
-/* A slot's state; number is 0, or why there is none, and state is FRONDICARE_STATE_UNSOUND then. */
+/* A slot's state, enum frondicare_state or another byte. number is 0; or it says why not, and state is
+ * FRONDICARE_STATE_UNSOUND. */
 typedef struct {
     uint32_t number;
     uint32_t state;
 } frondicare_slot_state;
 
-/* Of an image; number is 0, or why there is none, and version is 0 then. */
+/* An image's version. number is 0; or it says why not, and version is 0. */
 typedef struct {
     uint32_t number;
     uint32_t version;
 } frondicare_version;
 
-/* Where a tag's content lies in its header. number is 0 where the tag was found; otherwise it says
- * why not, and at and len are 0. */
+/* Where a tag's content lies in its header. number is 0; or it says why not, and at and len are 0. */
 typedef struct {
     uint32_t number;
     size_t at;
@@ -207,8 +213,10 @@ enum frondicare_number {
     FRONDICARE_ERR_MOST_STEPS = 29
 };
 
-/* ---- The loader. Its flash is a slice of memory with three areas: BOOT and UPDATE are sector_count + 1 sectors each,
- * the last of them the trailer; SWAP is one sector; boot, update and swap are their offsets. */
+/* ---- The loader. The slots, BOOT and UPDATE, are sector_count + 1 sectors each, the last of them the trailer; SWAP is
+ * one sector; boot, update and swap are their offsets. A slot is sound with a state where it ends in that byte and
+ * 42 4F 4F 54. UPDATE's flags, half a byte for each sector, lie before its state, two to a byte and downward from it,
+ * the even sector's in the low half. Bytes and flags are hexadecimal. */
 
 /* Whether the three areas fit a flash of flash_len bytes. Areas may touch. 1: sector_size is not 256, 512, 1024, 2048
  * or 4096; 2: sector_count is not 1 to 64; 3: an offset is not a multiple of sector_size, or an area passes the end;
@@ -229,7 +237,7 @@ frondicare_answer frondicare_next_step(const uint8_t *flash, size_t flash_len,
 /* Carries out one step on the flash, where that is memory. op is the step's kind, with at, to and value as the answer
  * has them. Sectors are those of the three areas; a byte, of at most 255, lies within a trailer, and a mark at a slot's
  * last four bytes. All but an erase can only clear bits: a byte becomes what it was AND what is written. Arguments that
- * an op doesn't use are ignored; of an answer that has no step nothing is to be carried out, its zeros would erase.
+ * an op doesn't use are ignored. (An answer without a step has zeros here, which would erase: look at its kind first.)
  * 1 to 4 as above; 24: the step is not accepted. */
 uint32_t frondicare_apply_step(uint8_t *flash, size_t flash_len,
                                size_t sector_size, size_t sector_count,
@@ -247,13 +255,15 @@ frondicare_answer frondicare_run(uint8_t *flash, size_t flash_len,
                                  bool boot_signed, bool update_signed,
                                  uint32_t most_steps, frondicare_step_counts *counts);
 
-/* Whether a swap is under way: UPDATE is sound with 70, and its flags are neither all F nor all 0. Then neither slot is
- * whole. Ill-formed flags count too, which the loader refuses. False where the geometry is refused. */
+/* Whether a swap is under way: UPDATE is sound with 70, and its flags, well-formed or not, are neither all F nor all 0.
+ * frondicare_next_step answers a step then, or refuses ill-formed flags, whatever boot_signed and update_signed are.
+ * False where the geometry is refused. */
 bool frondicare_in_mid_swap(const uint8_t *flash, size_t flash_len,
                             size_t sector_size, size_t sector_count,
                             size_t boot, size_t update, size_t swap);
 
-/* What no power-up exceeds, whatever the flash holds: 2 (9 sector_count + 4); 0 where sector_count is not 1 to 64. */
+/* The most steps that a run does, and so a power-up, whatever the flash holds: 2 (9 sector_count + 4). With so many a
+ * run never answers a step that is due. 0 where sector_count is not 1 to 64. */
 uint32_t frondicare_most_steps(size_t sector_count);
 
 /* The next step that triggers an update to the image in UPDATE, at most three in all, or finished. The
@@ -264,14 +274,12 @@ frondicare_answer frondicare_trigger(const uint8_t *flash, size_t flash_len,
                                      size_t boot, size_t update, size_t swap);
 
 /* The step that confirms the image in BOOT, which is on trial, or finished where it is confirmed.
- * Refused: 1 to 4 and 22 as above; 23: nothing is on trial. */
+ * Refused: 1 to 4 and 22 as above; 23: BOOT is neither on trial nor confirmed. */
 frondicare_answer frondicare_confirm(const uint8_t *flash, size_t flash_len,
                                      size_t sector_size, size_t sector_count,
                                      size_t boot, size_t update, size_t swap);
 
-/* The state of BOOT, and of UPDATE: the byte before the slot's last four, where these are 42 4F 4F 54 (its trailer is
- * sound). 1 to 4 as above. UPDATE's flags are before its state, two to a byte and downward from it, the even sector's
- * in the low half. */
+/* The state that BOOT is sound with, and UPDATE. 1 to 4 as above. */
 frondicare_slot_state frondicare_boot_state(const uint8_t *flash, size_t flash_len,
                                             size_t sector_size, size_t sector_count,
                                             size_t boot, size_t update, size_t swap);

@@ -17,9 +17,9 @@ static void write_image(size_t slot, uint32_t version, uint8_t byte)
     frondicare_fields fields = { version, 0, 0 };
     uint8_t *firmware = flash + slot + 256, signature[64];
     memset(firmware, byte, 256);
-    check(frondicare_digest_to_sign(fields, firmware, 256, hint, 0, hint, signature) == 0, "digest");
+    check(frondicare_digest_to_sign(fields, firmware, 256, NULL, 0, hint, signature) == 0, "digest");
     memcpy(signature + 32, signature, 32);
-    check(frondicare_write_header(flash + slot, 256, fields, firmware, 256, hint, 0, hint, signature) == 0, "image");
+    check(frondicare_write_header(flash + slot, 256, fields, firmware, 256, NULL, 0, hint, signature) == 0, "image");
 }
 
 /* Not yet triggered. */

@@ -1,5 +1,5 @@
-/* What the headers name: the version, constants, types of tags, numbers in words; and each call with a geometry, which
- * answers as its entry does with six numbers. */
+/* What the headers name: version, constants, types of tags, states, numbers in words; and each call with a geometry,
+ * which answers as its entry does with six numbers. */
 #include "board.h"
 #include "frondicare_geometry.h"
 #include "frondicare_words.h"
@@ -45,6 +45,22 @@ static void versions(void)
     check(v.number == FRONDICARE_OK && v.version == 2, "version of a damaged image");
     v = frondicare_version_of(flash + UPDATE, 511);
     check(v.number == FRONDICARE_ERR_SIZE && v.version == 0, "version of a cut image");
+}
+
+/* Of a slot that is sound with a byte that is no state, and of a geometry that is refused. */
+static void states(void)
+{
+    frondicare_slot_state s;
+    memset(flash, 0xff, FLASH);
+    memcpy(flash + UPDATE_STATE, "\x55" "BOOT", 5);
+    s = frondicare_update_state(flash, FLASH, SECTOR, SECTORS, BOOT, UPDATE, SWAP);
+    check(s.number == FRONDICARE_OK && s.state == 0x55, "another byte");
+    s = frondicare_update_state(flash, FLASH, SECTOR, SECTORS, BOOT, UPDATE, UPDATE);
+    check(s.number == FRONDICARE_ERR_OVERLAP && s.state == FRONDICARE_STATE_UNSOUND, "no state of UPDATE");
+    s = frondicare_boot_state(flash, FLASH, SECTOR, SECTORS, BOOT, UPDATE, UPDATE);
+    check(s.number == FRONDICARE_ERR_OVERLAP && s.state == FRONDICARE_STATE_UNSOUND, "no state of BOOT");
+    check(frondicare_most_steps(SECTORS) == 44 && frondicare_most_steps(64) == 1160, "most steps");
+    check(frondicare_most_steps(0) == 0 && frondicare_most_steps(65) == 0, "most steps of no geometry");
 }
 
 /* The answers of a call with a geometry and of its entry. */
@@ -138,6 +154,7 @@ int main(void)
     constants();
     tags();
     versions();
+    states();
     with_a_geometry();
     return report("C names");
 }

@@ -24,6 +24,14 @@ static void carry_out(frondicare_answer a)
     check(number == 0, "a step that was answered is accepted");
 }
 
+/* Whether the slots are sound with these states. */
+static bool are(uint32_t boot, uint32_t update)
+{
+    frondicare_slot_state b = frondicare_boot_state(flash, FLASH, SECTOR, SECTORS, BOOT, UPDATE, SWAP);
+    frondicare_slot_state u = frondicare_update_state(flash, FLASH, SECTOR, SECTORS, BOOT, UPDATE, SWAP);
+    return b.number == 0 && b.state == boot && u.number == 0 && u.state == update;
+}
+
 static void carry_out_trigger(void)
 {
     frondicare_answer a;
@@ -32,12 +40,16 @@ static void carry_out_trigger(void)
     check(says(a, FRONDICARE_FINISHED, 0), "triggered");
 }
 
+/* How many decisions of a power-up fell in mid-swap. */
+static int in_mid_swap;
+
 /* One power-up. Counts its steps, and answers as the last call does. */
 static frondicare_answer power_up(int *steps)
 {
     frondicare_answer a;
-    *steps = 0;
+    *steps = in_mid_swap = 0;
     do {
+        in_mid_swap += frondicare_in_mid_swap(flash, FLASH, SECTOR, SECTORS, BOOT, UPDATE, SWAP);
         a = next_step();
         if (a.kind == FRONDICARE_STEP || a.kind == FRONDICARE_LAST_STEP) {
             carry_out(a);
@@ -51,10 +63,14 @@ static void updated(void)
 {
     int steps;
     staged();
+    check(are(FRONDICARE_STATE_UNSOUND, FRONDICARE_STATE_UNSOUND), "nothing triggered");
     check(says(power_up(&steps), FRONDICARE_BOOT, 0) && steps == 0, "boot, nothing triggered");
     carry_out_trigger();
+    check(are(FRONDICARE_STATE_UNSOUND, FRONDICARE_STATE_UPDATING), "updating");
     check(power_up(&steps).kind == FRONDICARE_LAST_STEP && steps == 20 && in_boot(NEW), "update in 20 steps");
+    check(in_mid_swap == 15, "mid-swap from the first flag to the last");
     check(has_states("\x10" "BOOT", "\x30" "BOOT"), "on trial, spent");
+    check(are(FRONDICARE_STATE_ON_TRIAL, FRONDICARE_STATE_SPENT), "on trial, spent, as told");
 }
 
 static void returned(void)
@@ -70,7 +86,7 @@ static void confirmed(void)
     int steps;
     updated();
     carry_out(confirm());
-    check(flash[BOOT_STATE] == 0x00, "confirm");
+    check(flash[BOOT_STATE] == 0x00 && are(FRONDICARE_STATE_CONFIRMED, FRONDICARE_STATE_SPENT), "confirm");
     check(says(confirm(), FRONDICARE_FINISHED, 0), "confirmed");
     check(says(power_up(&steps), FRONDICARE_BOOT, 0) && steps == 0 && in_boot(NEW), "boot, confirmed");
 }
