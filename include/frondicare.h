@@ -36,7 +36,7 @@
  *
  * Where the flash is memory, a run does all steps in one call. But it goes by the checker's answers from its start, and
  * of a swap that was cut no slot may be whole to be checked: such a swap is finished first, a step at a time, and no
- * answer is looked at. (Without that loop a good update that was cut may be undone.)
+ * answer is looked at. (Without that loop a good update that was cut may be undone, or no image be started.)
  *
  *     bool power_up_by_run(void)
  *     {

@@ -1,6 +1,6 @@
 #!/usr/bin/env python3
-"""The header's enums, each in a switch as the header says it: with all names the compilers accept it, with any one left
-out -Wswitch refuses it."""
+"""The header's enums, each in a switch as the header says it: with all names the compilers accept it, with the last one
+left out -Wswitch refuses it."""
 import re
 import subprocess
 import sys
