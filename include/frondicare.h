@@ -77,7 +77,7 @@
  *   So a caller of frondicare_next_step checks both slots before each call, or keeps the answers and exchanges them
  *   when a step makes the last flag 0; a run does that itself.
  * - The machine, by the System V ABI: the stack pointer is a multiple of 16 at a call, an interrupt leaves the 128
- *   bytes below it alone, SSE2 registers can be used. A call takes at most 1,536 bytes of stack (a run; the others are
+ *   bytes below it alone, SSE2 registers can be used. A call takes at most 1,600 bytes of stack (a run; the others are
  *   in bench/RESULTS.md). The code has 24 KB at most, no data that is written, and calls memset and nothing else. */
 #ifndef FRONDICARE_H
 #define FRONDICARE_H
