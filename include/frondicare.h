@@ -57,7 +57,7 @@
  * To update: ask frondicare_trigger, and carry nothing out yet. Where it refuses, leave UPDATE alone, since it may hold
  * the image to return to. Otherwise erase UPDATE, its trailer first, and write the image there with the flash's own
  * driver. Verify it where it lies (frondicare_verify); if it passes, ask frondicare_trigger and carry out its step,
- * until it answers FRONDICARE_FINISHED. The next power-up swaps the image in.
+ * until it answers FRONDICARE_FINISHED. The next power-up swaps the image in. (examples/valve/requests.c does this.)
  * To confirm: the image on trial asks frondicare_confirm and carries out the step. Otherwise the next power-up returns
  * to the image before it, where that one passes; it is on trial then too.
  *
@@ -237,8 +237,8 @@ frondicare_answer frondicare_next_step(const uint8_t *flash, size_t flash_len,
 /* Carries out one step on the flash, where that is memory. op is the step's kind, with at, to and value as the answer
  * has them. Sectors are those of the three areas; a byte, of at most 255, lies within a trailer, and a mark at a slot's
  * last four bytes. All but an erase can only clear bits: a byte becomes what it was AND what is written. Arguments that
- * an op doesn't use are ignored. (An answer without a step has zeros here, which would erase: look at its kind first.)
- * 1 to 4 as above; 24: the step is not accepted. */
+ * an op doesn't use are ignored. An answer without a step has zeros here, which may be an erase: look at its kind
+ * first, as frondicare_carry_out_on does. 1 to 4 as above; 24: the step is not accepted. */
 uint32_t frondicare_apply_step(uint8_t *flash, size_t flash_len,
                                size_t sector_size, size_t sector_count,
                                size_t boot, size_t update, size_t swap,

@@ -4,6 +4,10 @@
 #include "frondicare_geometry.h"
 #include "frondicare_words.h"
 
+#if FRONDICARE_VERSION_NUMBER < 300 || FRONDICARE_HEADER_SIZE != 256
+#error "the preprocessor knows these"
+#endif
+
 static void constants(void)
 {
     static const uint8_t closing[] = FRONDICARE_CLOSING_BYTES;
