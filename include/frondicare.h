@@ -35,7 +35,7 @@
  *     }
  *
  * Where the flash is memory, a run does all steps in one call. But it goes by the checker's answers from its start, and
- * of a swap that was cut no slot may be whole to be checked: such a swap is finished first, a step at a time, and no
+ * after a cut in mid-swap there may be no whole slot to check: so that swap is finished first, a step at a time, and no
  * answer is looked at. (Without that loop a good update that was cut may be undone, or no image be started.)
  *
  *     bool power_up_by_run(void)
@@ -51,8 +51,9 @@
  *
  * True: start the image in BOOT, and don't ask again before the next power-up: after an update it is on trial, and the
  * loader would begin the return. False: none can be started, and a.number says why; or a.kind is a step still, and the
- * flash doesn't take what is written. The board's own are flash, its driver, and is_signed: what the signature checker
- * says of the digest in the header at an offset. Check the board's numbers once: frondicare_check_geometry_on.
+ * flash doesn't take what is written. The board brings flash, where that is read; flash_erase, flash_copy, flash_write;
+ * and is_signed, what its signature checker says of the digest in the header at an offset. Check its six numbers once:
+ * frondicare_check_geometry_on(&board) is 0.
  *
  * To update: ask frondicare_trigger, and carry nothing out yet. Where it refuses, leave UPDATE alone, since it may hold
  * the image to return to. Otherwise erase UPDATE, its trailer first, and write the image there with the flash's own
@@ -65,10 +66,11 @@
  * - A call: every entry is proved against its contract in crates/frondicare/src. It ends, reads and writes only what it
  *   was lent, allocates and keeps nothing, and answers numbers of document 01 ("Numbers given back"), 0 for none. A
  *   refusal writes nothing; only a run may refuse after it has done steps, and these stay done.
- * - The caller: a pointer and its length describe memory that can be read, a flash's too; the pointer may be null where
- *   that length is 0, and no other may. A hint and a digest are 32 bytes, a signature is 64. What is taken without
- *   const can be written too, and no other argument reaches it. Nobody else writes any of it during a call. Arguments
- *   that are only read may overlap. A bool is true or false. Every number is accepted.
+ * - The caller: a pointer and its length describe memory that can be read; a flash is read as memory, also where a
+ *   driver writes it. The pointer may be null where that length is 0, and no other may. A hint and a digest are 32
+ *   bytes, a signature is 64. What is taken without const can be written too, and no other argument reaches it. Nobody
+ *   else writes any of it during a call. Arguments that are only read may overlap. A bool is true or false. Every
+ *   number is accepted.
  * - The flash: what reads as all FF is erased; a byte can be written again, to clear more of its bits (one with flags
  *   is, up to six times). Where power is lost, a byte or a mark is written or not begun; an erase or a copy changes
  *   nothing outside its sector; and a cut erase never leaves 42 4F 4F 54 at a slot's end.
