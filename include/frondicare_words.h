@@ -13,7 +13,7 @@ static inline const char *frondicare_in_words(uint32_t number)
     case 2: return "the number of an image's sectors is not 1 to 64";
     case 3: return "an offset is no multiple of the sector size, or an area passes the end of the flash";
     case 4: return "two of BOOT, UPDATE and SWAP overlap";
-    case 5: return "the simulator's input has fewer than 24 bytes, or more than 65,536 of flash";
+    case 5: return "fewer than 24 bytes of input, or more than 65,536 of flash";
     case 10: return "shorter than a header's 256 bytes, or a buffer of another length";
     case 11: return "the image mark is wrong";
     case 12: return "the size is 0 or too large";
@@ -23,8 +23,8 @@ static inline const char *frondicare_in_words(uint32_t number)
     case 16: return "a mandatory tag has a wrong length";
     case 17: return "the digest differs";
     case 18: return "the signature checker says no";
-    case 19: return "the version is not greater than BOOT's";
-    case 20: return "UPDATE's flags are ill-formed";
+    case 19: return "the version is not greater";
+    case 20: return "the flags are ill-formed";
     case 21: return "the image in BOOT is on trial";
     case 22: return "a swap is under way";
     case 23: return "the image in BOOT is neither on trial nor confirmed";
