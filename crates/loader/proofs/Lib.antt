@@ -2,3 +2,4 @@ pub mod ByProgress
 pub mod Accepting
 pub mod Triggering
 pub mod Unverified
+pub mod Begun

@@ -1,7 +1,8 @@
 -- When it is mid-swap, as document 01's "What the loader covers" has it. Claims: in mid-swap nothing is verified, that is, the answer is the
--- same under every verdict, every acceptance rule and every answer of the signature checker; and it is never a boot.
+-- same under every verdict, every acceptance rule and every answer of the signature checker; it is never a boot; and a swap is begun (22)
+-- exactly in mid-swap and where all flags are 0.
 use Prim.Native.Nat.{ℕ}
-use mathlib.Core.Bool.{Bool, true, not, _&&_}
+use mathlib.Core.Bool.{Bool, true, not, _&&_, _||_}
 use mathlib.Core.List.{List}
 use mathlib.Core.Path.{_≡_}
 use lib.Dec.{eqb}
@@ -14,6 +15,7 @@ use Rattle.slots.specs.Places.{trailerOf}
 use Rattle.slots.specs.declared.places.Slot.the-variants.{Update}
 use Rattle.loader.specs.Checks.{Checks}
 use Rattle.loader.specs.Decisions.{nextStep}
+use Rattle.loader.specs.Requests.{swapBegun}
 use Rattle.loader.specs.States.{staged}
 use Rattle.loader.specs.declared.answers.Answer.{Answer}
 use Rattle.loader.specs.declared.answers.Answer.the-variants as A
@@ -41,3 +43,7 @@ StepOr20 (A.Refused n) = n ≡ 20
 
 abbrev pub NeverBoots : Type 0
 NeverBoots = (g : Geometry) (f : List ℕ) → midSwapAnswer g f ≡ true → (checks : Checks) (a b : Bool) → StepOr20 (nextStep checks g f a b)
+
+abbrev pub BegunExactlyThen : Type 0
+BegunExactlyThen = (g : Geometry) (f : List ℕ) → geometryCheck g (length f) ≡ 0
+    → swapBegun g f ≡ (midSwap g f || (staged g f && all updated (flags (g .count) (trailerOf g f Update))))
