@@ -59,12 +59,17 @@ def exchange(geometry, flash, number):
     return "E", target
 
 
+def passed_over(geometry, flash, answers):
+    """The number that UPDATE is passed over for where an update or a return comes up, decisions 3 and 5; 0 for none."""
+    if sound_with(geometry, flash, UPDATE, UPDATING):
+        return update_refused(geometry, flash, answers) if progress(geometry, flash) == 0 else 0
+    return verdict(geometry, flash, answers, UPDATE) if sound_with(geometry, flash, BOOT, TESTING) else 0
+
+
 def without_update(geometry, flash, answers):
     """Decision 5."""
-    if not sound_with(geometry, flash, BOOT, TESTING):
-        return boot(geometry, flash, answers, 0)
-    number = verdict(geometry, flash, answers, UPDATE)
-    if number != 0:
+    number = passed_over(geometry, flash, answers)
+    if number != 0 or not sound_with(geometry, flash, BOOT, TESTING):
         return boot(geometry, flash, answers, number)
     return Answer("STEP", renewal(geometry, flash, UPDATE, UPDATING))
 
@@ -83,7 +88,7 @@ def next_step(geometry, flash, answers):
     number = progress(geometry, flash)
     if number == 3 * geometry.n:
         return last_steps(geometry, flash, answers)
-    refused = update_refused(geometry, flash, answers) if number == 0 else 0
+    refused = passed_over(geometry, flash, answers)
     if refused != 0:
         return boot(geometry, flash, answers, refused)
     return Answer("STEP", exchange(geometry, flash, number))
