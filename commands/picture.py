@@ -1,6 +1,9 @@
 """Draws a board and the update on it from the steps that the simulator prints, with power losses where they are asked
-for. A refused board has status 1."""
+for: a row for each step, but sectors in a row that are exchanged alike are one row, all but the first and the last. A
+refused board has status 1; it is drawn all the same where it has areas."""
+import argparse
 import os
+import re
 import sys
 from pathlib import Path
 
@@ -8,16 +11,31 @@ from commands.failure import Failed
 from commands.inputs import contents, told
 from commands.options import Once, at_least
 from commands.programs import built
-from model.board import board_of
 from picture import svg, text
+from picture.drawn import ALL, Part, drawn_rows
 from picture.findings import findings_of
 from picture.images import images_of
-from picture.power_ups import NoSuchStep, history_of, simulated
+from picture.power_ups import NoSuchStep, board_or_none, history_of, simulated
 from picture.words import refusal_text
 
 HELP = "an update drawn step by step, with power losses"
-# Of the geometry and of the input's length: there is nothing to draw.
-BEFORE_ALL = [("REFUSE", number) for number in range(1, 6)]
+PART = re.compile(r"(?:(\d+):)?(\d+)(-)?(\d+)?", re.ASCII)
+
+
+def part(text):
+    """One part of --rows."""
+    found = PART.fullmatch(text)
+    if found is None or found[4] and not found[3]:
+        raise argparse.ArgumentTypeError(f"{text} is not of the form A, A-B, A- or P:A-B")
+    power_up, first = int(found[1] or 1), int(found[2])
+    last = int(found[4]) if found[4] else None if found[3] else first
+    if power_up == 0 or first == 0 and power_up > 1 or last is not None and last < first:
+        raise argparse.ArgumentTypeError(f"{text} has no rows")
+    return Part(power_up, first, last)
+
+
+def rows(text):
+    return ALL if text == ALL else [part(word) for word in text.split(",")]
 
 
 def options(parser):
@@ -27,33 +45,53 @@ def options(parser):
                         "second, and so on; 0 is uncut")
     parser.add_argument("--boots", metavar="N", type=at_least(1), default=1, action=Once,
                         help="goes on to the next start up to this boot")
+    which = parser.add_mutually_exclusive_group()
+    which.add_argument("--rows", metavar="A-B", type=rows, action=Once,
+                       help="only these rows, none folded: steps by their numbers, which begin with 1 in each power-up "
+                       "(0 is the board as found); A-B is of the first power-up, 2:A-B of the second, A- goes to its "
+                       "end, and A is one row; several with commas between them; all is every row")
+    which.add_argument("--all", dest="rows", action="store_const", const=ALL, help="every row: --rows all")
     parser.add_argument("--svg", metavar="FILE", action=Once,
-                        help="draws into this file, and prints what was found only")
+                        help="draws into this file, and prints what was found only; - is standard output, for the "
+                        "drawing alone")
 
 
 def coloured():
     return sys.stdout.isatty() and "NO_COLOR" not in os.environ
 
 
+def printable(name):
+    """A file may have any name."""
+    return "".join(c if c.isprintable() else "?" for c in name)
+
+
+def saved(name, drawing):
+    try:
+        Path(name).write_text(drawing, encoding="utf-8")
+    except (OSError, ValueError) as error:
+        raise Failed(told(name, error)) from error
+    return f"drawn into {printable(name)}"
+
+
 def shown(given, data):
     """The lines to print, and the exit status."""
-    _, end = simulated(data)
-    if end in BEFORE_ALL:
-        return [refusal_text(end[1])], 1
+    board = board_or_none(data)
+    if board is None:
+        number = simulated(data)[1][1]
+        return [refusal_text(number), *["nothing is drawn: there are no areas"] * (given.svg is not None)], 1
     try:
-        history = history_of(board_of(data), given.cut, given.boots)
+        history = history_of(board, given.cut, given.boots)
+        images = images_of(history.found.geometry, history.found.flash)
+        drawn = drawn_rows(history, images, given.rows)
     except NoSuchStep as error:
         raise Failed(error) from error
-    images = images_of(history.found.geometry, history.found.flash)
     findings = findings_of(history, images)
-    name, status = Path(given.board).name, int(history.power_ups[-1].end[0] == "REFUSE")
+    name = "standard input" if given.board == "-" else printable(Path(given.board).name)
+    status = int(history.power_ups[-1].end[0] == "REFUSE")
     if given.svg is None:
-        return text.draw(name, history, images, findings, coloured()), status
-    try:
-        Path(given.svg).write_text(svg.draw(name, history, images, findings), encoding="utf-8")
-    except OSError as error:
-        raise Failed(told(given.svg, error)) from error
-    return findings, status
+        return text.draw(name, history, images, findings, drawn, coloured()), status
+    drawing = svg.draw(name, history, images, findings, drawn)
+    return [drawing.rstrip("\n")] if given.svg == "-" else [*findings, saved(given.svg, drawing)], status
 
 
 def run(given):

@@ -1,13 +1,14 @@
 """What the text and the SVG say above their rows, beside them and between them."""
 from picture.contents import BLANK, FROM_BOOT, FROM_UPDATE, OTHER, SAME, content_text, contents_of
-from picture.findings import end_text
+from picture.ends import end_text, reasons
 from picture.places import SWAP, cell_written
-from picture.words import FLAGS, SAFE, STATES, sector_text, step_text
+from picture.words import FLAGS, MEANS, SAFE, STATES, sector_text, step_text
 
 # Lines between two power-ups: how one ended, what a cut left, how the next begins.
 LOSS, LEFT, BOOTED, START = "loss", "left", "booted", "start"
 WRITTEN = "just written"
-TRAILER_LEGEND = [f"{state:02X} {text}" for state, text in STATES.items()]
+FLAGS_ORDER = "sector 0's first"
+TRAILER_LEGEND = [", ".join(filter(None, (f"{state:02X} {text}", MEANS.get(state)))) for state, text in STATES.items()]
 FLAG_LEGEND = [", ".join(filter(None, (f"{flag:X} {text}", SAFE.get(flag)))) for flag, text in FLAGS.items()]
 
 
@@ -42,7 +43,7 @@ def left_text(g, row, images):
 def between(g, power_up, images):
     """The lines after a power-up that isn't the last."""
     if power_up.end[0] == "BOOT":
-        return [(BOOTED, end_text(g, power_up)), (START, "next start")]
+        return [(BOOTED, end_text(power_up)), *[(LEFT, text) for text in reasons(power_up)], (START, "next start")]
     last = power_up.rows[-1]
     return [(LOSS, f"power lost during: {row_text(g, last)}"), (LEFT, left_text(g, last, images)),
             (START, "power up again")]

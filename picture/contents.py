@@ -59,10 +59,12 @@ def swap_content(g, flash, images):
     """SWAP may hold any sector: the one that the flags have come to is tried first, then those near it."""
     [data] = area_sectors(g, flash, SWAP)
     current = updated_sectors(g, flash)
-    nearest = sorted(range(g.n), key=lambda i: (abs(i - current), i))
-    found = [content_of(data, images, i) for i in nearest]
-    clearest = {FROM_BOOT, FROM_UPDATE, SAME}
-    return min(found, key=lambda content: (content.kind == OTHER, not clearest & {content.kind, *content.halves}))
+    found = []
+    for i in sorted(range(g.n), key=lambda i: (abs(i - current), i)):
+        found.append(content_of(data, images, i))
+        if found[-1].kind != OTHER:
+            return found[-1]
+    return min(found, key=lambda content: not {FROM_BOOT, FROM_UPDATE, SAME} & set(content.halves))
 
 
 def trailer_of(g, flash, slot):

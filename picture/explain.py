@@ -1,23 +1,16 @@
 """The simulator's output with plain words beside it, and what the board was before."""
-from model.board import RECORD, board_of, signed
-from model.flash import BOOT, UPDATE, check
+from model.board import signed
+from model.flash import BOOT, UPDATE
 from model.loader import verdict, version
-from model.refusals import Refused, in_words
-from model.slots import SPENT, UPDATING, flags, state_at
+from model.refusals import in_words
+from model.slots import UPDATING, flags
 from picture.contents import trailer_of
-from picture.words import FLAGS, NAMES, refusal_text, step_text
-
-
-def board_or_none(data):
-    """None where the input is too short or its geometry is refused."""
-    if len(data) < RECORD.size:
-        return None
-    board = board_of(data)
-    try:
-        check(board.geometry)
-    except Refused:
-        return None
-    return board
+from picture.drawn import ALL, drawn_rows
+from picture.ends import end_text, reasons
+from picture.folds import Fold
+from picture.images import images_of
+from picture.power_ups import board_or_none, history_of, simulated
+from picture.words import FEW, FLAGS, NAMES, flags_text, refusal_text, step_text
 
 
 def image_text(g, flash, slot):
@@ -27,13 +20,15 @@ def image_text(g, flash, slot):
 
 def trailer_text(g, flash, slot):
     """The flags count only in an UPDATE that is sound with 70."""
-    trailer = trailer_of(g, flash, slot)
+    trailer, found = trailer_of(g, flash, slot), flags(g, flash)
     if not trailer.sound:
         return "no sound trailer"
     text = f"trailer {trailer.text()}"
     if (slot, trailer.state) != (UPDATE, UPDATING):
         return text
-    return f"{text}, sectors {', '.join(FLAGS.get(flag, 'unknown') for flag in flags(g, flash))}"
+    if g.n > FEW:
+        return f"{text}, flags {flags_text(found)}"
+    return f"{text}, sectors {', '.join(FLAGS.get(flag, 'unknown') for flag in found)}"
 
 
 def described(board):
@@ -43,19 +38,25 @@ def described(board):
     return [*slots, f"signature checker: {', '.join(words)}"]
 
 
-def end_text(g, word, number, last):
-    if word == "REFUSE":
-        return refusal_text(number)
-    if last == ["B", state_at(g, UPDATE), SPENT]:
-        return f"boots version {number} on trial: not confirmed, it is exchanged back at the next start"
-    return f"boots version {number}"
+def line(printed, text):
+    """What the simulator printed, and its meaning."""
+    return f"{printed:<14}{text}"
 
 
-def explained(data, steps, end):
-    """The lines for a board, from the steps and the end that the simulator printed."""
+def row_line(g, row):
+    if isinstance(row, Fold):
+        return line("..", row.text())
+    return line(" ".join(map(str, row.step)), step_text(g, *row.step))
+
+
+def explained(data, unfolded):
+    """The lines for a board, and how it ended."""
     board = board_or_none(data)
-    g, lines = board and board.geometry, described(board) if board else []
-    for step in steps:
-        lines.append(f"{' '.join(map(str, step)):<14}{step_text(g, *step)}")
-    last = list(steps[-1]) if steps else None
-    return [*lines, f"{' '.join(map(str, end)):<14}{end_text(g, *end, last)}"]
+    if board is None:
+        _, end = simulated(data)
+        return [line(" ".join(map(str, end)), refusal_text(end[1]))], end
+    history, images = history_of(board, [], 1), images_of(board.geometry, board.flash)
+    [[_, *rows]], [power_up] = drawn_rows(history, images, ALL if unfolded else None), history.power_ups
+    said = "; ".join([end_text(power_up), *reasons(power_up)])
+    lines = [*described(board), *[row_line(board.geometry, row) for row in rows]]
+    return [*lines, line(" ".join(map(str, power_up.end)), said)], power_up.end

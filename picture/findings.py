@@ -3,22 +3,13 @@ from model.board import signed
 from model.flash import BOOT, UPDATE, outside
 from model.loader import verdict, version
 from model.refusals import in_words
-from model.slots import SUCCESS, TESTING, sound_with
+from picture.ends import end_text, reasons
 from picture.images import area_sectors
-from picture.words import NAMES, STATES, refusal_text
+from picture.words import NAMES
 
 
 def counted(number, word):
     return f"{number} {word}" if number == 1 else f"{number} {word}{'es' if word.endswith('s') else 's'}"
-
-
-def end_text(g, power_up):
-    """How a power-up ended that was not cut."""
-    word, number = power_up.end
-    if word == "REFUSE":
-        return refusal_text(number)
-    states = [STATES[state] for state in (TESTING, SUCCESS) if sound_with(g, power_up.flash, BOOT, state)]
-    return " ".join([f"boots version {number}", *states])
 
 
 def slot_text(board, images, slot):
@@ -26,7 +17,7 @@ def slot_text(board, images, slot):
     g, flash, _ = board
     number = verdict(g, flash, signed(board.answers), slot)
     text = f"version {version(g, flash, slot)}, whole" if number == 0 else f"does not pass, {in_words(number)}"
-    origins = [NAMES[i] for i, image in enumerate(images) if image.sectors == area_sectors(g, flash, slot)]
+    origins = [image.origin for image in images if image.sectors == area_sectors(g, flash, slot)]
     came = f"every byte from {origins[0] if len(origins) == 1 else 'either'}" if origins else "other bytes than found"
     return f"{NAMES[slot]}: {text}; {came}"
 
@@ -50,9 +41,10 @@ def steps_text(history):
 
 def findings_of(history, images):
     """The first sentence says how it ended."""
-    board, g = history.board, history.board.geometry
+    board, g, last = history.board, history.board.geometry, history.power_ups[-1]
     return [
-        end_text(g, history.power_ups[-1]),
+        end_text(last),
+        *reasons(last),
         slot_text(board, images, BOOT),
         slot_text(board, images, UPDATE),
         steps_text(history),

@@ -10,10 +10,11 @@ from picture.words import NAMES
 
 
 class Image(NamedTuple):
-    """Its name in a drawing, a name of one character, what it is, and its sectors."""
+    """Its name in a drawing, a name of one character, what it is, where it came from, and its sectors."""
     name: str
     mark: str
     text: str
+    origin: str
     sectors: list
 
 
@@ -23,15 +24,18 @@ def area_sectors(g, flash, area):
     return [flash[at:at + g.z] for at in range(start, start + count * g.z, g.z)]
 
 
+def swap_progress(g, flash):
+    """0 where no swap has begun, or the flags say none."""
+    try:
+        return progress(g, flash) if sound_with(g, flash, UPDATE, UPDATING) else 0
+    except Refused:
+        return 0
+
+
 def before_swap(g, flash):
     """The sectors of BOOT's image and of UPDATE's. A flag says where those of its sector lie."""
     boot, update = area_sectors(g, flash, BOOT), area_sectors(g, flash, UPDATE)
-    try:
-        i, stage = divmod(progress(g, flash), 3)
-    except Refused:
-        return boot, update
-    if not sound_with(g, flash, UPDATE, UPDATING):
-        return boot, update
+    i, stage = divmod(swap_progress(g, flash), 3)
     from_boot, from_update = update[:i] + boot[i:], boot[:i] + update[i:]
     if stage > 0:
         [from_update[i]] = area_sectors(g, flash, SWAP)
@@ -40,16 +44,17 @@ def before_swap(g, flash):
     return from_boot, from_update
 
 
-def image(slot, sectors, other):
+def image(slot, sectors, other, origin):
     """Named by its version where that is short and not the other's too. The signature is left aside."""
     number, letter, refused = version_or_none(b"".join(sectors)), "AB"[slot], verdict(b"".join(sectors), True)
     telling = number is not None and number != version_or_none(b"".join(other))
     name = f"v{number}" if telling and number < 1000 else letter
     mark = str(number) if telling and number < 10 else letter
-    text = f"{NAMES[slot]}'s bytes" if number is None else f"version {number} from {NAMES[slot]}"
-    return Image(name, mark, text if refused == 0 else f"{text}, {in_words(refused)}", sectors)
+    text = f"{'bytes' if number is None else f'version {number}'} from {origin}"
+    return Image(name, mark, text if refused == 0 else f"{text}, {in_words(refused)}", origin, sectors)
 
 
 def images_of(g, flash):
     boot, update = before_swap(g, flash)
-    return image(BOOT, boot, update), image(UPDATE, update, boot)
+    when = " before the swap" if swap_progress(g, flash) > 0 else ""
+    return image(BOOT, boot, update, f"{NAMES[BOOT]}{when}"), image(UPDATE, update, boot, f"{NAMES[UPDATE]}{when}")

@@ -1,11 +1,15 @@
 """A board started again and again: the simulator's steps carried out, each power-up up to its boot, its refusal or the
 step on which the power is lost."""
 import subprocess
+import tempfile
 from pathlib import Path
 from typing import NamedTuple
 
-from model.flash import carried_out
+from model.board import RECORD, Board, board_of
+from model.flash import carried_out, check
+from model.refusals import Refused
 from model.runner import all_updated
+from model.simulator import MOST_FLASH
 from picture.places import sector_of, target
 
 SIMULATOR = Path(__file__).resolve().parents[1] / "target/bin/simulator"
@@ -23,19 +27,41 @@ class Row(NamedTuple):
 
 class PowerUp(NamedTuple):
     """It ends with BOOT and the version, REFUSE and the number, or CUT and the number of the step; and it leaves a
-    flash."""
+    board."""
     rows: list
     end: tuple
-    flash: bytes
+    board: Board
 
 
 class NoSuchStep(Exception):
     pass
 
 
+def check_step(power_up, steps, number):
+    if number > steps:
+        has = f"{steps} step{'s' * (steps != 1)}" if steps else "no step"
+        raise NoSuchStep(f"power-up {power_up} has {has}, and none is number {number}")
+
+
+def board_or_none(data):
+    """None where the input is too short or too long, or its geometry is refused: there is nothing to show."""
+    if not RECORD.size <= len(data) <= RECORD.size + MOST_FLASH:
+        return None
+    board = board_of(data)
+    try:
+        check(board.geometry)
+    except Refused:
+        return None
+    return board
+
+
 def simulated(data):
-    """The steps and the end that the simulator prints."""
-    said = subprocess.run([SIMULATOR], input=data, stdout=subprocess.PIPE, check=True).stdout.decode("ascii")
+    """The steps and the end that the simulator prints. It is given a file: of a long input it doesn't read all, and a
+    pipe would break."""
+    with tempfile.TemporaryFile() as file:
+        file.write(data)
+        file.seek(0)
+        said = subprocess.run([SIMULATOR], stdin=file, stdout=subprocess.PIPE, check=True).stdout.decode("ascii")
     *steps, end = [(word, *map(int, numbers)) for word, *numbers in map(str.split, said.splitlines())]
     return steps, end
 
@@ -79,10 +105,9 @@ class History:
     def power_up(self, cut):
         """One start, cut on this step; 0 is uncut."""
         steps, end = simulated(self.board.data())
-        if cut > len(steps):
-            raise NoSuchStep(f"power-up {len(self.power_ups) + 1} has {len(steps)} steps, and none is number {cut}")
+        check_step(len(self.power_ups) + 1, len(steps), cut)
         rows = [self.carry_out(number, step, number == cut) for number, step in enumerate(steps[:cut or None], 1)]
-        self.power_ups.append(PowerUp(rows, ("CUT", cut) if cut else end, self.board.flash))
+        self.power_ups.append(PowerUp(rows, ("CUT", cut) if cut else end, self.board))
 
     def as_found(self):
         return Row(0, None, self.found.flash)

@@ -1,15 +1,16 @@
 """The picture as a self-contained SVG document: a row for each step, from top to bottom."""
 from model.flash import BOOT, UPDATE
-from picture.captions import FLAG_LEGEND, LOSS, WRITTEN, between, kinds_legend, size_text
+from picture.captions import FLAG_LEGEND, LOSS, TRAILER_LEGEND, WRITTEN, between, kinds_legend, size_text
 from picture.findings import steps_text
+from picture.folds import Fold
 from picture.places import FLAG, SWAP
 from picture.svg_columns import MARGIN, Columns
 from picture.svg_page import Page
-from picture.svg_rows import CELL, ROW, RowDrawing
+from picture.svg_rows import RowDrawing
 from picture.words import NAMES
 
-# In the legend: before the samples, a sample, and how much room a letter is given.
-INDENT, SAMPLE, LETTER = 42, 36, 6.5
+# In the legend: before the samples, a sample's width and height, and how much room a letter is given.
+INDENT, SAMPLE, CELL, LETTER = 42, 36, 19, 6.5
 # After so many rows the heading comes again.
 HEADED = 36
 
@@ -44,6 +45,8 @@ class Drawing:
         cells = [(kind, rows.sector_style(kind), rows.labels[kind], text)
                  for kind, text in kinds_legend(self.images).items()]
         self.entries("cells", [*cells, ("written", "label", "", WRITTEN)])
+        self.entries("state", [*[("sound", "state", text[:2], text[3:]) for text in TRAILER_LEGEND],
+                               ("open", "state", "", "not closed")])
         self.entries("flags", [(f"flag{text[0]}", rows.flag_style(text[0]), text[0], text[2:]) for text in FLAG_LEGEND])
 
     def heading(self):
@@ -66,17 +69,21 @@ class Drawing:
 
     def draw(self, rows):
         """Rows over bands that show the areas; a cut one has a band across."""
+        height, (left, right) = self.rows.height, self.columns.edges()
         for x, width in self.columns.bands():
-            self.page.rect("band", x - 5, self.y, width + 9, ROW * len(rows) + 4)
+            self.page.rect("band", x - 5, self.y, width + 9, height * len(rows) + 4)
         for row in rows:
-            if row.cut:
-                self.page.rect("cut", MARGIN - 8, self.y + 3, self.columns.right - MARGIN + 16, ROW)
-            self.rows.draw(row, self.y)
-            self.y += ROW
+            if isinstance(row, Fold):
+                self.rows.fold(row, self.y)
+            else:
+                if row.cut:
+                    self.page.rect("cut", left, self.y + 3, right - left, height)
+                self.rows.draw(row, self.y)
+            self.y += height
         self.y += 4
 
     def between(self, power_up):
-        lines, left, right = between(self.g, power_up, self.images), MARGIN - 8, self.columns.right + 8
+        lines, (left, right) = between(self.g, power_up, self.images), self.columns.edges()
         if lines[0][0] == LOSS:
             self.page.zigzag("lost", left, self.y + 5, right - left)
             self.page.bolt(MARGIN, self.y + 15)
@@ -86,28 +93,27 @@ class Drawing:
         for kind, text in lines:
             self.line(kind, text, 18, self.columns.words)
 
-    def power_ups(self, history):
-        rows = [history.as_found()]
-        for power_up in history.power_ups:
-            self.panel(rows + power_up.rows)
+    def power_ups(self, history, drawn):
+        for power_up, rows in zip(history.power_ups, drawn):
+            self.panel(rows)
             if power_up is not history.power_ups[-1]:
                 self.between(power_up)
-            rows = []
 
     def findings(self, findings):
-        self.page.path("line", f"M{MARGIN - 8} {self.y + 9}H{self.columns.right + 8}")
+        left, right = self.columns.edges()
+        self.page.path("line", f"M{left} {self.y + 9}H{right}")
         self.y += 16
         for i, text in enumerate(findings):
             self.line("booted" if i == 0 else "words", text, 20, self.columns.words)
 
 
-def draw(name, history, images, findings):
+def draw(name, history, images, findings, drawn):
     page = Page(f"{name}: {findings[0]}", ". ".join(findings))
     drawing = Drawing(page, history.found.geometry, images)
     drawing.line("title", f"{name}: {findings[0]}", 26)
     drawing.line("words", f"{size_text(drawing.g)}; {steps_text(history)}", 26)
     drawing.legend()
     drawing.heading()
-    drawing.power_ups(history)
+    drawing.power_ups(history, drawn)
     drawing.findings(findings)
     return page.finished(drawing.columns.page, drawing.y + MARGIN - 8)

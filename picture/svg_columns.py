@@ -25,6 +25,10 @@ class Columns:
         self.right = swap + SWAP_CELL
         self.page = self.right + MARGIN
 
+    def edges(self):
+        """Of a line across the page."""
+        return MARGIN - 8, self.right + 8
+
     def cell(self, area, i):
         """Where a cell begins and how wide it is. A slot's trailer is sector n."""
         left = self.left[area]

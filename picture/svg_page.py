@@ -30,6 +30,7 @@ text { font-family: sans-serif; font-size: 12px; fill: #1f2933; }
 .tear { fill: none; stroke: #b3001b; stroke-width: 1.5; }
 .arrow { fill: none; stroke: #1f2933; stroke-width: 1.3; }
 .head { fill: #1f2933; }
+.gap { fill: #fbfaf7; stroke: #8a877d; stroke-dasharray: 2 3; }
 .cut { fill: #fbe3e1; }
 .lost { fill: none; stroke: #b3001b; stroke-width: 2; }
 .bolt { fill: #b3001b; }

@@ -7,9 +7,8 @@ from picture.contents import BLANK, FROM_BOOT, FROM_UPDATE, OTHER, SAME, content
 from picture.places import FLAG, SWAP, cell_read, cell_written
 from picture.words import FLAGS, NAMES
 
-# The lane for an arrow, then the cells.
-LANE, CELL = 9, 19
-ROW = LANE + CELL + 2
+# The lane for an arrow, then the cells; and so in a board of more sectors than have room for labels.
+TALL, LOW, MOST_TALL = (9, 19), (7, 16), 8
 
 
 def fits(label, width):
@@ -37,13 +36,16 @@ class RowDrawing:
         # Names that do not fit a sector, or a flag, are written over all neighbours that are equal.
         self.sectors_together = not all(fits(image.name, columns.sector) for image in images)
         self.flags_together = not fits("F", columns.flag)
+        self.lane, self.cell = TALL if g.n <= MOST_TALL else LOW
+        # From a row's top to the next one's, and to the foot of its letters.
+        self.height, self.foot = self.lane + self.cell + 2, self.lane + (self.cell + 9) // 2
 
     def box(self, kind, area, begin, length, y, title, label, style):
         x, width = self.columns.cell(area, begin)
         width = width * length - 1
-        self.page.rect(kind, x, y + LANE, width, CELL, title)
+        self.page.rect(kind, x, y + self.lane, width, self.cell, title)
         if label and (area == SWAP or begin == self.g.n or fits(label, width)):
-            self.page.text(style, x + width / 2, y + LANE + 14, label)
+            self.page.text(style, x + width / 2, y + self.foot, label)
 
     def sector(self, area, begin, length, content, y, title, label):
         """Halves that differ are drawn apart, with a tear between them."""
@@ -53,8 +55,9 @@ class RowDrawing:
         x, width = self.columns.cell(area, begin)
         half = (width - 1) / 2
         for i, kind in enumerate(content.halves):
-            self.page.rect(kind, x + i * half, y + LANE, half, CELL, title if i == 0 else None)
-        self.page.path("tear", f"M{x + half} {y + LANE - 2}l2.5 6l-5 5l5 5l-2.5 7")
+            self.page.rect(kind, x + i * half, y + self.lane, half, self.cell, title if i == 0 else None)
+        tooth = (self.cell - 4) // 3
+        self.page.path("tear", f"M{x + half} {y + self.lane - 2}l2.5 {tooth + 1}l-5 {tooth}l5 {tooth}l-2.5 7")
 
     def slot(self, contents, slot, written, y):
         plain = [content._replace(sector=0) for content in contents.slots[slot]]
@@ -88,10 +91,10 @@ class RowDrawing:
         """What it wrote is framed; an arrow leads from what it copied."""
         area, i = cell_written(self.g, step)
         x, width = self.columns.cell(area, i)
-        self.page.rect("written", x - 1, y + LANE - 1, width + 1, CELL + 2)
+        self.page.rect("written", x - 1, y + self.lane - 1, width + 1, self.cell + 2)
         source = cell_read(self.g, step)
         if source is not None:
-            start, end, top = self.columns.middle(*source), self.columns.middle(area, i), y + LANE
+            start, end, top = self.columns.middle(*source), self.columns.middle(area, i), y + self.lane
             self.page.path("arrow", f"M{start} {top}V{y + 3}H{end}V{top - 4}")
             self.page.path("head", f"M{end} {top - 1}l-3.5 -5h7z")
 
@@ -102,11 +105,19 @@ class RowDrawing:
         if mended_text(row):
             self.page.add("tspan", "mended", mended_text(row), parent=words)
 
+    def fold(self, fold, y):
+        """A gap across the page."""
+        left, right = self.columns.edges()
+        self.page.open("fold")
+        self.page.rect("gap", left, y + self.lane - 1, right - left, self.cell + 2)
+        self.page.text("words", self.columns.words, y + self.foot, fold.text())
+        self.page.close()
+
     def draw(self, row, y):
         contents = contents_of(self.g, row.flash, self.images)
         written = dict([cell_written(self.g, row.step)] if row.step else [])
         self.page.open("row")
-        self.words(row, y + LANE + 14)
+        self.words(row, y + self.foot)
         for slot in BOOT, UPDATE:
             self.slot(contents, slot, written, y)
         self.flags(contents, written, y)

@@ -1,11 +1,16 @@
 """Plain words for a board's places, trailers, flags, steps and refusals."""
+from itertools import groupby
+
 from model.flash import BOOT, UPDATE
 from model.refusals import in_words
 from model.slots import BACKUP, NEW, SPENT, SUCCESS, SWAPPING, TESTING, UPDATED, UPDATING, state_at
 from picture.places import SWAP, flag_written, sector_of
 
 NAMES = "BOOT", "UPDATE", "SWAP"
+# Up to so many sectors are told one by one, and drawn with room between them.
+FEW = 4
 STATES = {0xFF: "new", UPDATING: "updating", TESTING: "on trial", SUCCESS: "confirmed", SPENT: "spent"}
+MEANS = {TESTING: "exchanged back unless confirmed", SUCCESS: "it stays", SPENT: "its swap is over"}
 FLAGS = {NEW: "new", SWAPPING: "swapping", BACKUP: "backup", UPDATED: "updated"}
 SAFE = {SWAPPING: "UPDATE's is in SWAP", BACKUP: "BOOT's is in UPDATE", UPDATED: "UPDATE's is in BOOT"}
 
@@ -37,6 +42,12 @@ def byte_text(g, at, value):
             return f"{NAMES[slot]}'s state: {STATES[value]}"
     i, flag = flag_written(g, at, value)
     return f"flag of sector {i}: {FLAGS[flag]}, {SAFE[flag]}"
+
+
+def flags_text(flags):
+    """How many there are in a row, from sector 0's on."""
+    runs = [(len(list(run)), f"{flag:X}") for flag, run in groupby(flags)]
+    return " ".join(f"{count}x{flag}" if count > 1 else flag for count, flag in runs)
 
 
 def step_text(g, letter, at, other=None):

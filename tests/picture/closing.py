@@ -5,26 +5,27 @@ from model import header
 from model.flash import BOOT, UPDATE
 from model.refusals import Refused
 from model.slots import image
-from tests.picture.rows import SLOTS, end_words, mends
+from tests.picture.rows import SLOTS, mends
 
 SLOT = re.compile(r"(BOOT|UPDATE): (version (\d+), whole|does not pass, .*); (.*)")
 STEPS = re.compile(r"(no step is due|(\d+) steps? begun), (no power loss|(\d+) power loss(?:es)?, (mended|\d+ mended))")
 
 
-def check_slot(expected, slot, line, images):
-    """images: of BOOT and of UPDATE before the swap that the board was in, None where they are not known."""
+def check_slot(expected, slot, line, images, when):
+    """images: of BOOT and of UPDATE before the swap that the board was in, None where they are not known; when: the
+    words for that."""
     g, held = expected.geometry, image(expected.geometry, expected.rows[-1].flash, slot)
     name, text, version, origin = SLOT.fullmatch(line).groups()
     assert name == SLOTS[slot], line
     try:
-        header.verify(held, expected.answers >> slot & 1)
+        header.verify(held, expected.end.answers >> slot & 1)
         assert int(version) == header.version(held), line
     except Refused:
         assert version is None, line
     if images is not None:
         origins = [SLOTS[i] for i in (BOOT, UPDATE) if images[i].ljust(g.n * g.z, b"\xff") == held]
-        words = {0: "other bytes than found", 1: f"every byte from {''.join(origins)}", 2: "every byte from either"}
-        assert origin == words[len(origins)], line
+        came = "either" if len(origins) == 2 else f"{''.join(origins)}{when}"
+        assert origin == (f"every byte from {came}" if origins else "other bytes than found"), line
 
 
 def check_steps(expected, line):
@@ -42,13 +43,12 @@ def outside(g, flash):
     return flash
 
 
-def check_closing(expected, findings, images):
+def check_closing(expected, findings, images, when):
     g, flash = expected.geometry, expected.rows[-1].flash
-    end, boot, update, steps, around = findings
-    words = end_words(g, flash, expected.end)
-    assert end.startswith(words) and (words == "refused: " or end == words), end
-    check_slot(expected, BOOT, boot, images)
-    check_slot(expected, UPDATE, update, images)
+    *ends, boot, update, steps, around = findings
+    assert ends == [expected.end.words(), *expected.end.reasons()], ends
+    check_slot(expected, BOOT, boot, images, when)
+    check_slot(expected, UPDATE, update, images, when)
     check_steps(expected, steps)
     first, last = outside(g, expected.rows[0].flash), outside(g, flash)
     assert first == last

@@ -1,8 +1,11 @@
-"""The command itself: colours on a terminal only, words that examples/board has too, errors, the stored example."""
+"""The command itself: colours on a terminal only, standard input, a pipe that is closed, the stored example, and words
+that examples/board has too."""
 import os
 import pty
 import re
 import subprocess
+
+from tests.picture.stumbles import check_stumbles
 
 CODES = re.compile(r"\x1b\[[0-9;]*m")
 
@@ -30,6 +33,20 @@ def said_on_terminal(root, board, **environment):
     return text.decode("ascii").replace("\r\n", "\n")
 
 
+def check_pipes(root, board, plain):
+    """Standard input has no name; whoever reads only the first line hears no complaint."""
+    command = [root / "frondicare", "picture"]
+    with open(board, "rb") as file:
+        piped = subprocess.run([*command, "-"], stdin=file, capture_output=True, text=True)
+    assert piped.stdout == plain.replace(board.name, "standard input", 1) and not piped.stderr, piped
+    # More than a pipe holds.
+    boots = ["--boots", "60"]
+    with subprocess.Popen([*command, board, *boots], stdout=subprocess.PIPE, stderr=subprocess.PIPE, text=True) as cut:
+        assert cut.stdout.readline() == plain.splitlines(keepends=True)[0]
+        cut.stdout.close()
+        assert cut.stderr.read() == ""
+
+
 def check_command(root, folder):
     board, stored = root / "examples/board/update.bin", root / "docs/power-loss.svg"
     plain, coloured = said(root, board), said_on_terminal(root, board)
@@ -40,8 +57,6 @@ def check_command(root, folder):
     assert len(steps) == len(explained) and all(line.endswith(f" {words}") for line, words in zip(steps, explained))
     findings = said(root, board, "--cut", "7", "--svg", folder / "drawn.svg")
     assert (folder / "drawn.svg").read_text() == stored.read_text(), "docs/power-loss.svg is another picture"
-    assert findings.splitlines()[3] == "22 steps begun, 1 power loss, mended", findings
-    for words in ([folder / "missing.bin"], [board, "--cut", "21"], [board, "--cut", "0", "--cut", "1"]):
-        said(root, *words, status=1)
-    for words in ([], [board, "--cut", "-1"], [board, "--boots", "0"], [board, board]):
-        said(root, *words, status=2)
+    assert findings.splitlines()[4] == "22 steps begun, 1 power loss, mended", findings
+    check_pipes(root, board, plain)
+    check_stumbles(folder, board)

@@ -7,6 +7,7 @@ from model.flash import BOOT, CLOSING, UPDATE, Geometry
 from model.refusals import Refused
 from model.simulator import simulate
 from model.slots import UPDATING, progress, sound_with
+from tests.picture.ends import End
 
 
 class Row(NamedTuple):
@@ -24,8 +25,7 @@ class Expected(NamedTuple):
     geometry: Geometry
     rows: list
     breaks: list
-    end: str
-    answers: int
+    end: End
 
     def steps(self):
         """How many steps each power-up begins."""
@@ -68,29 +68,31 @@ def ended(g, flash):
 
 
 def power_up(g, flash, answers, cut, simulated):
-    """Its rows, its last line, and the signature answers after it."""
+    """Its rows and its end."""
     *lines, end = simulated(Board(g, flash, answers).data()).splitlines()
     rows = []
-    for number, line in enumerate(lines, 1):
+    for line in lines:
         step = (line[0], *map(int, line.split()[1:]))
         after = done(g.z, flash, step)
         here = places(g.z, step)
-        if number == cut:
-            return [*rows, Row(number, step, cut_off(g, flash, step), True, here, after[here])], "CUT", answers
+        if len(rows) + 1 == cut:
+            flash = cut_off(g, flash, step)
+            return [*rows, Row(cut, step, flash, True, here, after[here])], End("CUT", g, flash, answers)
         if ended(g, after) and not ended(g, flash):
             answers = (answers & 1) * 2 + answers // 2 % 2
-        rows.append(Row(number, step, after, False, here, after[here]))
+        rows.append(Row(len(rows) + 1, step, after, False, here, after[here]))
         flash = after
-    return rows, end, answers
+    swapped = bool(rows) and rows[-1].step == ("B", g.trailer(UPDATE).stop - 5, 0x30)
+    return rows, End(end, g, flash, answers, swapped)
 
 
 def expected(data, cuts, boots, simulated=simulate):
     g, flash, answers = board_of(data)
-    rows, breaks, end = [Row(0, None, flash)], [], ""
+    rows, breaks, end = [Row(0, None, flash)], [], None
     cuts = list(cuts)
-    while boots > 0 and not end.startswith("REFUSE"):
+    while boots > 0 and not (end and end.line.startswith("REFUSE")):
         breaks += [(len(rows), end)] if end else []
-        more, end, answers = power_up(g, rows[-1].flash, answers, cuts.pop(0) if cuts else 0, simulated)
+        more, end = power_up(g, rows[-1].flash, end.answers if end else answers, cuts.pop(0) if cuts else 0, simulated)
         rows += more
-        boots -= end.startswith("BOOT")
-    return Expected(g, rows, breaks, end, answers)
+        boots -= end.line.startswith("BOOT")
+    return Expected(g, rows, breaks, end)

@@ -1,6 +1,7 @@
 """Whether the rows of a picture that was read back, and the lines between them, show what is expected."""
 from model.flash import BOOT, CLOSING, UPDATE
 from model.slots import flags
+from tests.picture.drawn import Folded
 from tests.picture.history import done
 from tests.picture.labels import Labels
 
@@ -59,27 +60,36 @@ def check_cells(g, flash, cells, labels, short):
     assert len(cells) == 3 * g.n + 3, cells
 
 
-def text_mark(g, name):
-    """The text has one mark for all flags, and without room one for all sectors of a slot."""
-    if name.startswith("flag"):
-        return "flag"
-    return f"{name.split()[0]} sector 0" if g.n > 4 and " sector " in name else name
+def is_mark(name, mark, short):
+    """The text may have one mark for all flags, and for all sectors of a slot: then it is the name's beginning."""
+    return mark == name or short and mark is not None and mark.endswith(" ") and name.startswith(mark)
 
 
-def check_rows(expected, drawn, short):
+def check_step(g, row, shown, before, mended, short):
+    name, words = written(g, row, before)
+    assert shown.words == words + ", mended" * mended, (shown.words, words)
+    assert is_mark(name, shown.written, short), (shown, name)
+    assert short or shown.copied == (sector_name(g, row.step[1]) if row.step[0] == "C" else None), shown
+    return name
+
+
+def check_rows(expected, items, drawn, short):
     """short: as the text has them. The labels, for what else is said of the sectors."""
     g, labels, mended = expected.geometry, Labels(), mends(expected.rows)
-    assert len(drawn) == len(expected.rows), (len(drawn), len(expected.rows))
-    for m, (row, shown) in enumerate(zip(expected.rows, drawn)):
+    assert len(drawn) == len(items), (len(drawn), len(items))
+    for item, shown in zip(items, drawn):
+        assert isinstance(shown, Folded) == (item.fold is not None), (shown, item)
+        if item.fold is not None:
+            assert shown == item.fold, (shown, item)
+            continue
+        [m] = item.rows
+        row = expected.rows[m]
         check_cells(g, row.flash, shown.cells, labels, short)
         assert shown.number == row.number, shown
         if row.step is None:
             assert shown.words == "as found" and shown.written is None and shown.copied is None, shown
             continue
-        name, words = written(g, row, expected.rows[m - 1].flash)
-        assert shown.words == words + ", mended" * (m in mended and not row.cut), (shown.words, words)
-        assert shown.written == (text_mark(g, name) if short else name), (shown, name)
-        assert short or shown.copied == (sector_name(g, row.step[1]) if row.step[0] == "C" else None), shown
+        name = check_step(g, row, shown, expected.rows[m - 1].flash, m in mended and not row.cut, short)
         check_swap(g, row, name, labels.named(shown.cells["SWAP"], None)[1])
     return labels
 
@@ -88,41 +98,3 @@ def check_swap(g, row, name, shown):
     """Of equal sectors SWAP is said to hold the one that was copied."""
     if row.step[0] == "C" and name == "SWAP" and not row.cut and shown is not None:
         assert sector_name(g, row.step[1]).endswith(f" sector {shown}"), (row.step, shown)
-
-
-def end_words(g, flash, end):
-    """BOOT with its state, or the beginning of a refusal."""
-    word, number = end.split()
-    if word == "REFUSE":
-        return "refused: "
-    state = flash[g.trailer(BOOT).stop - 5:g.trailer(BOOT).stop]
-    trial = {b"\x10" + CLOSING: " on trial", b"\x00" + CLOSING: " confirmed"}.get(state, "")
-    return f"boots version {number}{trial}"
-
-
-def check_left(g, row, line, labels):
-    """What a cut step left."""
-    if row.step[0] in "BM":
-        assert line == "not begun", line
-        return
-    name, left = line.split(" is left with: ")
-    assert name == sector_name(g, row.places.start), line
-    if name.endswith("trailer"):
-        assert left == trailer_text(g, row.flash, SLOTS.index(name.split("'")[0]), False), line
-    else:
-        labels.claim(left, None if name == "SWAP" else int(name.split()[2]), row.flash[row.places])
-
-
-def check_between(expected, between, labels):
-    """labels are the SVG's: the lines use its names."""
-    g = expected.geometry
-    assert [before for before, _ in between] == [before for before, _ in expected.breaks], between
-    for (before, lines), (_, end) in zip(between, expected.breaks):
-        row = expected.rows[before - 1]
-        if end != "CUT":
-            assert lines == [end_words(g, row.flash, end), "next start"], lines
-            continue
-        lost, left, again = lines
-        words = written(g, row, expected.rows[before - 2].flash)[1]
-        assert lost == f"power lost during: {words}" and again == "power up again", lines
-        check_left(g, row, left, labels)

@@ -1,12 +1,10 @@
 """Whether an SVG stands by itself: drawn shapes and text only, nothing fetched, nothing run."""
 import re
-import xml.etree.ElementTree as ElementTree
 
 TAGS = {"svg", "title", "desc", "style", "defs", "pattern", "g", "rect", "path", "text", "tspan"}
 
 
-def check_standalone(text):
-    root = ElementTree.fromstring(text)
+def check_standalone(text, root):
     assert root.tag == "{http://www.w3.org/2000/svg}svg" and root[0].text and root[1].text
     names = set()
     for element in root.iter():

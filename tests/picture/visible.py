@@ -1,9 +1,8 @@
 """Whether what is seen in the SVG, colours and labels, says the same as the titles of the cells. Labels that don't fit
 are left out, but not those of trailers and of SWAP."""
 import re
-import xml.etree.ElementTree as ElementTree
 
-from tests.picture.drawn import SVG, named_cells
+from tests.picture.read_svg import SVG, named_cells
 
 NUMBER = re.compile(r"sector (\d+) of ")
 
@@ -59,8 +58,7 @@ def check_row(group, kinds):
             check_sector(classes, label, text, kinds, cells == ["SWAP"])
 
 
-def check_visible(svg):
-    root = ElementTree.fromstring(svg)
+def check_visible(root):
     kinds = kinds_of(root)
-    for group in root.findall(f"{SVG}g"):
+    for group in root.findall(f"{SVG}g[@class='row']"):
         check_row(group, kinds)

@@ -4,15 +4,13 @@ from tests.picture.check import ROOT, check
 
 DATA = (ROOT / "examples/board/update.bin").read_bytes()
 # Steps on the example board, and what has to be said of BOOT and of UPDATE.
+OWN = [f"{slot}: version {version}, whole; every byte from {slot}" for slot, version in (("BOOT", 1), ("UPDATE", 2))]
+OTHER = "does not pass, {}; other bytes than found"
 WRONG = {
-    "E 0; C 768 0; E 256; C 1024 256; BOOT 2": ("BOOT: version 2, whole; every byte from UPDATE",
-                                                "UPDATE: version 2, whole; every byte from UPDATE"),
-    "E 256; BOOT 1": ("BOOT: does not pass, the digest differs; other bytes than found",
-                      "UPDATE: version 2, whole; every byte from UPDATE"),
-    "E 1024; C 0 1024; BOOT 1": ("BOOT: version 1, whole; every byte from BOOT",
-                                 "UPDATE: does not pass, the digest differs; other bytes than found"),
-    "C 0 1536; E 768; C 256 768; BOOT 1": ("BOOT: version 1, whole; every byte from BOOT",
-                                           "UPDATE: does not pass, the image mark is wrong; other bytes than found"),
+    "E 0; C 768 0; E 256; C 1024 256; BOOT 2": ("BOOT: version 2, whole; every byte from UPDATE", OWN[1]),
+    "E 256; BOOT 1": (f"BOOT: {OTHER.format('the digest differs (17)')}", OWN[1]),
+    "E 1024; C 0 1024; BOOT 1": (OWN[0], f"UPDATE: {OTHER.format('the digest differs (17)')}"),
+    "C 0 1536; E 768; C 256 768; BOOT 1": (OWN[0], f"UPDATE: {OTHER.format('the image mark is wrong (11)')}"),
 }
 
 
@@ -24,5 +22,5 @@ def check_wrong_loaders(path):
         wrong.chmod(0o700)
         power_ups.SIMULATOR = wrong
         findings = check(path, DATA, simulated=lambda data, lines=lines: lines)
-        assert tuple(findings[1:3]) == slots, findings
+        assert tuple(findings[-4:-2]) == slots, findings
     power_ups.SIMULATOR = right
