@@ -14,7 +14,8 @@ from tests.picture.between import check_between
 from tests.picture.closing import check_closing
 from tests.picture.folds import items_of
 from tests.picture.history import expected
-from tests.picture.read_svg import read_svg
+from tests.picture.legend import check_legends
+from tests.picture.read_svg import read_svg, svg_legend
 from tests.picture.read_text import read_text
 from tests.picture.rows import SLOTS, check_rows
 from tests.picture.standalone import check_standalone
@@ -71,6 +72,7 @@ def check(path, data, cuts=(), boots=1, images=None, versions=None, simulated=si
     findings, text, svg = drawn(path, words, g)
     root = ElementTree.fromstring(svg)
     check_svg(svg, root, shows)
+    check_legends(text, svg_legend(root))
     begun, pictures = swap_begun(g, data[24:]), (read_text(text, g.n), read_svg(root))
     when, items = " before the swap" * begun, [item for group in groups for item in group]
     images_known = images or (None if begun else [image(g, data[24:], slot) for slot in (BOOT, UPDATE)])

@@ -46,9 +46,16 @@ def svg_row(group):
     return Drawn(number, words, cells, written[0][0] if written else None, copied[0] if copied else None)
 
 
+def svg_legend(root):
+    """Each label before the heading with the meaning after it."""
+    texts = [(element.get("class"), element.text) for element in root if element.tag == f"{SVG}text"]
+    before = texts[:[kind for kind, _ in texts].index("name")]
+    return {(label, text) for (_, label), (kind, text) in zip(before, before[1:]) if kind == "words"}
+
+
 def read_svg(root):
-    """The legend ends with the heading."""
-    legend, rows, between, last, headed = {}, [], [(1, [])], None, False
+    """What comes after the first heading is no legend."""
+    rows, between, headed = [], [(1, [])], False
     for element in root:
         kind = element.get("class")
         headed = headed or kind == "name"
@@ -56,10 +63,8 @@ def read_svg(root):
             rows.append(svg_row(element))
         elif kind == "fold":
             rows.append(fold_of(element.find(f"{SVG}text").text))
-        elif not headed and kind == "words":
-            legend[element.text] = last
         elif headed and kind in ("loss", "left", "booted", "start", "words"):
             between += [(len(rows), [])] * (kind in ("loss", "booted"))
             between[-1][1].append(element.text)
-        last = element.text
+    legend = {text: label for label, text in svg_legend(root)}
     return Picture(legend, rows, between[1:-1], between[-1][1])
