@@ -1,5 +1,6 @@
-"""Says what a board is, and in plain words what the simulator's steps do on it. Sectors in a row that are exchanged
-alike are told once. A refused board has status 1."""
+"""Says what a board is, and in plain words what the simulator's steps do on it. Where sectors one after the other are
+exchanged alike, the first and the last of them are told step by step, and the others in one line. A refused board has
+status 1."""
 from commands.inputs import contents
 from commands.programs import built
 from picture.explain import explained

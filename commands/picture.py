@@ -1,6 +1,6 @@
 """Draws a board and the update on it from the steps that the simulator prints, with power losses where they are asked
-for: a row for each step, but sectors in a row that are exchanged alike are one row, all but the first and the last. A
-refused board has status 1; it is drawn all the same where it has areas."""
+for. Each step is a row. Where sectors one after the other are exchanged alike, the first and the last of them are
+drawn, and the others are one row."""
 import argparse
 import os
 import re
@@ -19,6 +19,13 @@ from picture.power_ups import NoSuchStep, board_or_none, history_of, simulated
 from picture.words import refusal_text
 
 HELP = "an update drawn step by step, with power losses"
+END = """examples, with a board of 64 sectors:
+  --cut 300                            the power is lost on step 300
+  --cut 300 --rows 290-300,2:1-12      only the steps around the loss
+  --cut 300 --all --svg update.svg     every step, into a file
+
+exit status: 0 drawn; 1 the board is refused (it is drawn where it has areas), or something failed; 2 the command is not
+understood"""
 PART = re.compile(r"(?:(\d+):)?(\d+)(-)?(\d+)?", re.ASCII)
 
 
@@ -39,6 +46,7 @@ def rows(text):
 
 
 def options(parser):
+    parser.epilog = END
     parser.add_argument("board", metavar="BOARD", help="an input of the simulator; - is standard input")
     parser.add_argument("--cut", metavar="STEP", type=at_least(0), action="append", default=[],
                         help="the power is lost on this step of the first power-up, counted from 1; once more for the "

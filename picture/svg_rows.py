@@ -1,32 +1,13 @@
 """One row of the SVG: a step in words, the cells after it, what it wrote and where a copy came from."""
-from itertools import groupby
-
 from model.flash import BOOT, UPDATE
 from picture.captions import mended_text, row_text
 from picture.contents import BLANK, FROM_BOOT, FROM_UPDATE, OTHER, SAME, content_text, contents_of
 from picture.places import FLAG, SWAP, cell_read, cell_written
+from picture.svg_runs import fits, numbered, runs
 from picture.words import FLAGS, NAMES
 
 # The lane for an arrow, then the cells; and so in a board of more sectors than have room for labels.
 TALL, LOW, MOST_TALL = (9, 19), (7, 16), 8
-
-
-def fits(label, width):
-    """The widest letters are those of the label's monospace font."""
-    return 7.3 * len(label) + 2 <= width
-
-
-def runs(values, together, written):
-    """Equal neighbours, or each by itself: where a run begins, how long it is, and its value. What the step wrote is
-    always by itself."""
-    keys = [(value, 0 if together and i != written else i + 1) for i, value in enumerate(values)]
-    lengths = [len(list(run)) for _, run in groupby(keys)]
-    begins = [sum(lengths[:i]) for i in range(len(lengths))]
-    return [(begin, length, values[begin]) for begin, length in zip(begins, lengths)]
-
-
-def numbered(words, begin, length):
-    return f"{words} {begin}" if length == 1 else f"{words}s {begin} to {begin + length - 1}"
 
 
 class RowDrawing:
