@@ -3,6 +3,7 @@ import re
 import xml.etree.ElementTree as ElementTree
 
 from model.board import record
+from model.flash import Geometry
 from tests.picture.check import check, printed
 from tests.picture.drawn import Folded
 from tests.picture.explained import check_explained
@@ -16,6 +17,7 @@ from tests.vectors.loader_images import written
 from tests.vectors.loader_stories import triggered
 from tests.vectors.runner_updates import two
 
+HALF = Geometry(z=256, n=32, boot=0, update=8448, swap=16896, length=17152)
 # The longest text and the highest SVG of one cut: about two screens.
 LINES, HEIGHT = 95, 2000
 # --rows of a board of 14 sectors, cut on step 60, and which these are: the power-up, the first step, the last one.
@@ -24,11 +26,9 @@ ROWS = {"28-40": [(1, 28, 40)], "0-2": [(1, 0, 2)], "60": [(1, 60, 60)], "2:65-"
 
 
 def shorter():
-    """Images that do not fill their slots, and of which ten sectors are the same: sectors of five kinds."""
-    old, new = (bytearray(b"".join(bytes([value]) * 256 for value in values))
-                for values in (range(1, 31), range(101, 141)))
-    new[10 * 256:20 * 256] = old[10 * 256:20 * 256]
-    return written(1, bytes(old)), written(2, bytes(new))
+    """Images that do not fill their slots, and of which six sectors are the same: sectors of five kinds."""
+    old, new = (b"".join(bytes([value]) * 256 for value in values) for values in (range(1, 16), range(101, 121)))
+    return written(1, old), written(2, new[:5 * 256] + old[5 * 256:11 * 256] + new[11 * 256:])
 
 
 def pictures(path, n, *words):
@@ -64,12 +64,13 @@ def check_some_rows(path, data):
 
 
 def check_large(path):
-    even, mixed = (record(LARGEST, BOTH) + triggered(LARGEST, *images) for images in (two(64), shorter()))
-    assert check(path, even, [100, 300])[0] == check(path, mixed, [200], every=True)[0] == "boots version 2 on trial"
+    even, mixed, small = (record(where, BOTH) + triggered(where, *images) for where, images in
+                          ((LARGEST, two(64)), (HALF, shorter()), (MOST, two(14))))
+    assert check(path, even, [100, 300])[0] == "boots version 2 on trial"
     check_size(path, even)
-    for data, every, most in ((even, False, 35), (mixed, True, 500)):
-        assert check_explained(data, expected(data, (), 1), every) <= most
-    assert check(path, mixed, [60, 0, 30], boots=2)[0] == "boots version 1 on trial"
-    small = record(MOST, BOTH) + triggered(MOST, *two(14))
+    assert check_explained(even, expected(even, (), 1)) == 34
+    assert check(path, mixed, [20, 0, 30], boots=2)[0] == "boots version 1 on trial"
+    assert sum(isinstance(row, Folded) for row in pictures(path, 32)[-1][0].rows) == 4
     assert check(path, small, [60], every=True) == check(path, small, [60])
+    assert check_explained(small, expected(small, (), 1), every=True) == 132
     check_some_rows(path, small)
