@@ -26,16 +26,16 @@ END = """examples, with a board of 64 sectors:
 
 exit status: 0 drawn; 1 the board is refused (it is drawn where it has areas), or something failed; 2 the command is not
 understood"""
-PART = re.compile(r"(?:(\d+):)?(\d+)(-)?(\d+)?", re.ASCII)
+PART = re.compile(r"(?:(\d+):)?(\d+)(-(\d*))?", re.ASCII)
 
 
 def part(text):
     """One part of --rows."""
     found = PART.fullmatch(text)
-    if found is None or found[4] and not found[3]:
+    if found is None:
         raise argparse.ArgumentTypeError(f"{text} is not of the form A, A-B, A- or P:A-B")
     power_up, first = int(found[1] or 1), int(found[2])
-    last = int(found[4]) if found[4] else None if found[3] else first
+    last = first if found[3] is None else int(found[4]) if found[4] else None
     if power_up == 0 or first == 0 and power_up > 1 or last is not None and last < first:
         raise argparse.ArgumentTypeError(f"{text} has no rows")
     return Part(power_up, first, last)
@@ -73,8 +73,10 @@ def printable(name):
     return "".join(c if c.isprintable() else "?" for c in name)
 
 
-def saved(name, drawing):
+def saved(name, drawing, board):
     try:
+        if board != "-" and Path(name).exists() and Path(name).samefile(board):
+            raise Failed(f"{name} is the board")
         Path(name).write_text(drawing, encoding="utf-8")
     except (OSError, ValueError) as error:
         raise Failed(told(name, error)) from error
@@ -85,8 +87,10 @@ def shown(given, data):
     """The lines to print, and the exit status."""
     board = board_or_none(data)
     if board is None:
-        number = simulated(data)[1][1]
-        return [refusal_text(number), *["nothing is drawn: there are no areas"] * (given.svg is not None)], 1
+        refused = refusal_text(simulated(data)[1][1])
+        if given.svg == "-":
+            raise Failed(refused)
+        return [refused, *["nothing is drawn"] * (given.svg is not None)], 1
     try:
         history = history_of(board, given.cut, given.boots)
         images = images_of(history.found.geometry, history.found.flash)
@@ -99,7 +103,7 @@ def shown(given, data):
     if given.svg is None:
         return text.draw(name, history, images, findings, drawn, coloured()), status
     drawing = svg.draw(name, history, images, findings, drawn)
-    return [drawing.rstrip("\n")] if given.svg == "-" else [*findings, saved(given.svg, drawing)], status
+    return [drawing.rstrip("\n")] if given.svg == "-" else [*findings, saved(given.svg, drawing, given.board)], status
 
 
 def run(given):

@@ -11,8 +11,8 @@ from picture.words import NAMES
 
 # In the legend: before the samples, a sample's width and height, and how much room a letter is given.
 INDENT, SAMPLE, CELL, LETTER = 42, 36, 19, 6.5
-# After so many rows the heading comes again.
-HEADED = 36
+# After so many rows the heading comes again. In the title a letter is given more room.
+HEADED, BOLD = 36, 11
 
 
 class Drawing:
@@ -110,7 +110,8 @@ class Drawing:
 def draw(name, history, images, findings, drawn):
     page = Page(f"{name}: {findings[0]}", ". ".join(findings))
     drawing = Drawing(page, history.found.geometry, images)
-    drawing.line("title", f"{name}: {findings[0]}", 26)
+    room = drawing.columns.page // BOLD - len(findings[0])
+    drawing.line("title", f"{name if len(name) <= room else name[:room - 3] + '...'}: {findings[0]}", 26)
     drawing.line("words", f"{size_text(drawing.g)}; {steps_text(history)}", 26)
     drawing.legend()
     drawing.heading()

@@ -55,6 +55,11 @@ def check_files(folder, board):
             short.write_bytes(bytes(length))
             answer, said = called(command, short)
             assert answer == 1 and said.endswith(TOO_SHORT), said
+    assert called("picture", short, "--svg", "-") == (1, TOO_SHORT)
+    copy = folder / "copy.bin"
+    copy.write_bytes(board.read_bytes())
+    assert called("picture", copy, "--svg", folder / "." / "copy.bin") == (1, f"{copy} is the board\n")
+    assert copy.read_bytes() == board.read_bytes()
     for name, told in ((folder, "Is a directory"), (folder / "none/a.svg", "No such file"), ("/dev/full", "No space")):
         answer, said = called("picture", board, "--svg", name)
         assert answer == 1 and said.startswith(f"{name}: {told}") and said.count("\n") == 1, said
