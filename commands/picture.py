@@ -15,7 +15,8 @@ from picture import svg, text
 from picture.drawn import ALL, Part, drawn_rows
 from picture.findings import findings_of
 from picture.images import images_of
-from picture.power_ups import NoSuchStep, board_or_none, history_of, simulated
+from picture.power_ups import NoSuchStep, history_of
+from picture.simulator import board_or_none, simulated
 from picture.words import refusal_text
 
 HELP = "an update drawn step by step, with power losses"

@@ -9,7 +9,8 @@ from picture.drawn import ALL, drawn_rows
 from picture.ends import end_text, reasons
 from picture.folds import Fold
 from picture.images import images_of
-from picture.power_ups import board_or_none, history_of, simulated
+from picture.power_ups import history_of
+from picture.simulator import board_or_none, simulated
 from picture.words import FEW, FLAGS, NAMES, flags_text, refusal_text, step_text
 
 

@@ -1,18 +1,12 @@
 """A board started again and again: the simulator's steps carried out, each power-up up to its boot, its refusal or the
 step on which the power is lost."""
-import subprocess
-import tempfile
-from pathlib import Path
 from typing import NamedTuple
 
-from model.board import RECORD, Board, board_of
-from model.flash import carried_out, check
-from model.refusals import Refused
+from model.board import Board
+from model.flash import carried_out
 from model.runner import all_updated
-from model.simulator import MOST_FLASH
 from picture.places import sector_of, target
-
-SIMULATOR = Path(__file__).resolve().parents[1] / "target/bin/simulator"
+from picture.simulator import simulated
 
 
 class Row(NamedTuple):
@@ -41,29 +35,6 @@ def check_step(power_up, steps, number):
     if number > steps:
         has = f"{steps} step{'s' * (steps != 1)}" if steps else "no step"
         raise NoSuchStep(f"power-up {power_up} has {has}, and none is number {number}")
-
-
-def board_or_none(data):
-    """None where the input is too short or too long, or its geometry is refused: there is nothing to show."""
-    if not RECORD.size <= len(data) <= RECORD.size + MOST_FLASH:
-        return None
-    board = board_of(data)
-    try:
-        check(board.geometry)
-    except Refused:
-        return None
-    return board
-
-
-def simulated(data):
-    """The steps and the end that the simulator prints. It is given a file: of a long input it doesn't read all, and a
-    pipe would break."""
-    with tempfile.TemporaryFile() as file:
-        file.write(data)
-        file.seek(0)
-        said = subprocess.run([SIMULATOR], stdin=file, stdout=subprocess.PIPE, check=True).stdout.decode("ascii")
-    *steps, end = [(word, *map(int, numbers)) for word, *numbers in map(str.split, said.splitlines())]
-    return steps, end
 
 
 def torn(g, flash, step):

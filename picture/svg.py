@@ -12,7 +12,7 @@ from picture.words import NAMES
 # In the legend: before the samples, a sample's width and height, and how much room a letter is given.
 INDENT, SAMPLE, CELL, LETTER = 42, 36, 19, 6.5
 # After so many rows the heading comes again. In the title a letter is given more room.
-HEADED, BOLD = 36, 11
+HEADED, BOLD = 36, 12
 
 
 class Drawing:

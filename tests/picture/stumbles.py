@@ -1,6 +1,7 @@
 """What people stumbled over: options and files that cannot be, each told in a line, with its status."""
 import contextlib
 import io
+import re
 from unittest.mock import patch
 
 from commands import explain, front, picture
@@ -73,6 +74,10 @@ def check_names(folder, board):
     drawing = called("picture", strange, "--svg", "-")[1]
     assert called("picture", strange, "--svg", folder / "a\udcff.svg")[1].endswith(f"\ndrawn into {folder}/a?.svg\n")
     assert drawing == (folder / "a\udcff.svg").read_text() and "a??&lt;&amp;?.bin" in drawing, drawing
+    long = folder / f"{'long' * 50}.bin"
+    long.write_bytes(board.read_bytes())
+    title = re.search('class="title".*>(.*)<', called("picture", long, "--svg", "-")[1])[1]
+    assert re.fullmatch("(long)+.{0,3}[.]{3}: boots version 2 on trial", title) and len(title) < 75, title
     refused = folder / "refused.bin"
     refused.write_bytes(board.read_bytes()[:20] + bytes(4) + board.read_bytes()[24:])
     answer, said = called("picture", refused, "--svg", folder / "b.svg")

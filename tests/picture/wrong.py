@@ -1,5 +1,5 @@
 """Loaders that print wrong steps: the picture has to show what the steps do, and to say what is lost."""
-from picture import power_ups
+from picture import simulator
 from tests.picture.check import ROOT, check
 
 DATA = (ROOT / "examples/board/update.bin").read_bytes()
@@ -15,12 +15,12 @@ WRONG = {
 
 
 def check_wrong_loaders(path):
-    right, wrong = power_ups.SIMULATOR, path.with_name("wrong")
+    right, wrong = simulator.PROGRAM, path.with_name("wrong")
     for steps, slots in WRONG.items():
         lines = steps.replace("; ", "\n") + "\n"
         wrong.write_text(f"#!/bin/sh\ncat >/dev/null\ncat <<END\n{lines}END\n")
         wrong.chmod(0o700)
-        power_ups.SIMULATOR = wrong
+        simulator.PROGRAM = wrong
         findings = check(path, DATA, simulated=lambda data, lines=lines: lines)
         assert tuple(findings[-4:-2]) == slots, findings
-    power_ups.SIMULATOR = right
+    simulator.PROGRAM = right
