@@ -8,8 +8,8 @@ from picture.contents import content_of
 from picture.images import area_sectors
 from picture.places import SWAP, cell_read, cell_written
 
-# Fewer sectors are not worth a fold.
-LEAST = 3
+# A fold of fewer sectors saves little. So boards of up to four sectors have none.
+LEAST = 2
 
 
 class Fold(NamedTuple):

@@ -1,4 +1,4 @@
-"""Which rows a picture folds, worked out from the flags and the steps' words alone: three or more sectors in a row
+"""Which rows a picture folds, worked out from the flags and the steps' words alone: two or more sectors in a row
 between two that are exchanged by the same steps, none of them cut or mended."""
 from typing import NamedTuple
 
@@ -8,7 +8,7 @@ from model.slots import UPDATING, flags, progress, sound_with
 from tests.picture.drawn import Folded
 from tests.picture.rows import mends, written
 
-LEAST = 3
+LEAST = 2
 
 
 class Item(NamedTuple):

@@ -70,7 +70,7 @@ def check_large(path):
     check_size(path, even)
     assert check_explained(even, expected(even, (), 1)) == 34
     assert check(path, mixed, [20, 0, 30], boots=2)[0] == "boots version 1 on trial"
-    assert sum(isinstance(row, Folded) for row in pictures(path, 32)[-1][0].rows) == 4
+    assert sum(isinstance(row, Folded) for row in pictures(path, 32)[-1][0].rows) == 5
     assert check(path, small, [60], every=True) == check(path, small, [60])
     assert check_explained(small, expected(small, (), 1), every=True) == 132
     check_some_rows(path, small)
