@@ -1,12 +1,15 @@
 """The picture as text: a line for each step or fold, and lines of their own for a power loss and a boot."""
+import re
 import textwrap
 
 from picture.captions import (BOOTED, FLAG_LEGEND, FLAGS_ORDER, LEFT, LOSS, START, TRAILER_LEGEND, WRITTEN, between,
                               kinds_legend, mended_text, row_text, size_text)
 from picture.folds import Fold
-from picture.text_cells import Cells
+from picture.text_cells import MOST_SINGLE, Cells
 
 COLUMNS, NO_BREAK = 100, "\xa0"
+# Of a copy from slot to slot: where there are many sectors, the number is said once.
+SAME_NUMBER = re.compile(r"(sector \d+) to (\w+) \1$")
 # A power loss is red.
 RED = "1;31"
 FOLDED = "folded"
@@ -22,7 +25,10 @@ class Drawing:
     def row(self, row):
         if isinstance(row, Fold):
             return self.between_line(FOLDED, row.text())
-        return f"{row.number or '':>3} {self.cells.row(row)} {row_text(self.g, row)}{mended_text(row)}"
+        words = row_text(self.g, row)
+        if self.g.n > MOST_SINGLE:
+            words = SAME_NUMBER.sub(r"\1 to \2", words)
+        return f"{row.number or '':>3} {self.cells.row(row)} {words}{mended_text(row)}"
 
     def legend(self):
         labels = self.cells.labels

@@ -44,7 +44,7 @@ def check_size(path, data):
     text, svg, read = pictures(path, 64, "--cut", 300)
     height = int(re.search(r'height="(\d+)"', svg)[1])
     assert text.count("\n") <= LINES and height <= HEIGHT, (text.count("\n"), height)
-    assert max(map(len, text.splitlines())) <= 108 and "; 9x. nine in a row\n" in text.replace("\n     ", ""), text
+    assert max(map(len, text.splitlines())) <= 100 and "; 9x. nine in a row\n" in text.replace("\n     ", ""), text
     for picture in read:
         folds = [row for row in picture.rows if isinstance(row, Folded)]
         assert folds == [(2, 31, 1, 30, 18, 287), (35, 62, 34, 28, 16, 267)], folds

@@ -6,6 +6,7 @@ from tests.picture.drawn import Drawn, Picture, fold_of
 SIGNS, FOLD_SIGN = ("~~~~ ", "==== ", "---- ", "     "), ".... "
 COUNTED = re.compile(r"(?:(\d+)x)?([0-9A-F])(?: |$)")
 RUN = re.compile(r"([ >])(?:(\d+)x)?(\S)(?=[ >]|$)")
+COPY = re.compile(r"copy (\w+) (sector \d+) to (BOOT|UPDATE)(, mended)?$")
 SLOTS = "BOOT", "UPDATE"
 
 
@@ -49,6 +50,10 @@ class TextReader:
         found += [f"{slot}'s trailer" for slot in SLOTS if line[self.trailers[slot] - 1] == ">"]
         return (found + ["flag of sector "] * (line[self.flags - 1] == ">") + ["SWAP"] * (line[self.swap - 1] == ">"))
 
+    def words(self, text):
+        """In full: of more than eight sectors, a copy from slot to slot names its own once."""
+        return COPY.sub(r"copy \1 \2 to \3 \2\4", text) if self.n > 8 else text
+
     def row(self, line):
         slots = {slot: self.slot_cells(line[self.sectors[slot]]) for slot in SLOTS}
         cells = {f"{slot} sector {i}": label for slot in SLOTS for i, (_, label) in enumerate(slots[slot])}
@@ -58,7 +63,7 @@ class TextReader:
         marked = self.marked(line, {slot: [sign for sign, _ in slots[slot]] for slot in SLOTS})
         number = int(line[:3].strip() or 0)
         assert len(marked) == (number > 0) == line[:self.swap].count(">"), line
-        return Drawn(number, line[self.swap + 5:], cells, marked[0] if marked else None)
+        return Drawn(number, self.words(line[self.swap + 5:]), cells, marked[0] if marked else None)
 
 
 def text_legend(text):
