@@ -46,7 +46,7 @@ def sectors_of(g, rows):
 
 def look(g, i, rows, images):
     """The steps as seen from sector i, and what it holds in BOOT, UPDATE and SWAP, and its flag, after each. None
-    where a power loss or its mending is among them."""
+    where a power loss is mended among them; the loss itself leaves another look."""
     def seen(cell):
         return cell if cell is None or cell[0] == SWAP else (cell[0], cell[1] - i)
 
@@ -54,7 +54,7 @@ def look(g, i, rows, images):
         data = [area_sectors(g, flash, BOOT)[i], area_sectors(g, flash, UPDATE)[i], *area_sectors(g, flash, SWAP)]
         return [content_of(part, images, i)._replace(sector=0) for part in data]
 
-    if i is None or any(row.cut or row.mended for row in rows):
+    if i is None or any(row.mended for row in rows):
         return None
     return [(row.step[0], seen(cell_written(g, row.step)), seen(cell_read(g, row.step)), flags(g, row.flash)[i],
              held(row.flash)) for row in rows]
