@@ -1,5 +1,6 @@
 // The loader's decisions (document 01, "The next step"): the next step of an update or a return, trigger
-// and confirm, and whether it is mid-swap. They read the lent flash and change nothing; flash::apply_step carries a step out.
+// and confirm, and whether it is mid-swap. They read the lent flash and change nothing; flash::apply_step
+// carries a step out.
 // Every public function is total: the geometry's numbers 1 to 4 first, then what document 01 says.
 mod answers;
 mod decisions;
