@@ -34,7 +34,7 @@ static plain_board noise(uint8_t *room)
     plain_geometry *g = &b.geometry;
     b.boot_signed = percent(50);
     b.update_signed = percent(50);
-    b.flash_len = up_to(MOST_NOISE);
+    b.flash_len = percent(10) ? 0 : up_to(MOST_NOISE);
     g->sector_size = percent(80) ? (size_t)256 << up_to(4) : any_size(b.flash_len);
     g->sector_count = percent(80) ? 1 + up_to(4) : any_size(b.flash_len);
     g->boot = any_size(b.flash_len);

@@ -18,7 +18,8 @@ void open_messages(void)
 static readable any_message(lent *l, size_t ahead)
 {
     size_t blocks = 1 + up_to(3), below = up_to(10);
-    size_t len = percent(50) ? 64 * blocks - below : up_to(percent(90) ? 300 : MOST_MESSAGE);
+    size_t any = percent(2) ? 0 : up_to(percent(90) ? 300 : MOST_MESSAGE);
+    size_t len = percent(50) ? 64 * blocks - below : any;
     any_bytes(ahead == 0 ? lend(l, len) : lend_far(l, len, ahead), len);
     return to_read(l);
 }

@@ -15,7 +15,7 @@ void open_images(void)
 
 static size_t noise(uint8_t *room)
 {
-    size_t len = up_to(percent(50) ? 300 : MOST_IMAGE);
+    size_t len = percent(10) ? 0 : up_to(percent(50) ? 300 : MOST_IMAGE);
     any_bytes(room, len);
     return len;
 }

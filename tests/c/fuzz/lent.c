@@ -59,6 +59,8 @@ static uint8_t *place(lent *l, size_t start, size_t len, size_t ahead)
 {
     if (len > l->room)
         fail("%s has no room for %zu bytes", l->name, len);
+    l->varies |= l->placed && l->len != len;
+    l->placed = true;
     l->start = start;
     l->len = len;
     l->ahead = ahead;
@@ -82,21 +84,43 @@ static uint8_t *lent_at(const lent *l, places p)
     return (l->ahead == 0 ? p.near : p.far) + l->start - l->ahead;
 }
 
-readable to_read(const lent *l)
+/* The same, but half of the time a null pointer where nothing is lent. */
+static uint8_t *lent_or_null(lent *l, places p)
 {
-    return (readable){ lent_at(l, l->readable), l->ahead + l->len };
+    bool null = l->ahead + l->len == 0 && percent(50);
+    l->nulls += null;
+    return null ? NULL : lent_at(l, p);
+}
+
+readable to_read(lent *l)
+{
+    return (readable){ lent_or_null(l, l->readable), l->ahead + l->len };
 }
 
 uint8_t *to_write(lent *l)
 {
     memcpy(l->before, l->writable.near + l->start, l->len);
     memcpy(l->expected.near + l->start, l->before, l->len);
-    return lent_at(l, l->writable);
+    return lent_or_null(l, l->writable);
 }
 
 uint8_t *to_expect(const lent *l)
 {
     return lent_at(l, l->expected);
+}
+
+bool lent_report(bool required)
+{
+    size_t i;
+    bool enough = true;
+    printf("null for nothing:");
+    for (i = 0; i < opened_count; i++)
+        if (opened[i]->varies) {
+            printf(" %s %lu;", opened[i]->name, opened[i]->nulls);
+            enough &= opened[i]->nulls > 0;
+        }
+    printf("\n");
+    return enough || !required;
 }
 
 static void same_bytes(const lent *l, const uint8_t *expected, const char *when)

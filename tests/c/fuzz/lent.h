@@ -22,6 +22,8 @@ typedef struct {
     uint8_t *before;                     /* what it found */
     size_t start, len;                   /* the part of the room that is lent */
     size_t ahead;                        /* how many bytes before the room are lent too */
+    bool placed, varies;                 /* it was lent; not always with as many bytes */
+    unsigned long nulls;                 /* how often nothing was lent, by a null pointer */
 } lent;
 
 /* Any bytes that a call may only read. */
@@ -39,14 +41,17 @@ uint8_t *lend(lent *l, size_t len);
 /* The same with up to 4 GiB ahead of them, the first of which are 00. */
 uint8_t *lend_far(lent *l, size_t len, size_t ahead);
 
-/* All that is lent, for a call that only reads it. */
-readable to_read(const lent *l);
+/* All that is lent, for a call that only reads it. Nothing is lent by a null pointer at times. */
+readable to_read(lent *l);
 
 /* The same for a call that writes it. Keeps what the room holds, and once more where the call is expected. */
 uint8_t *to_write(lent *l);
 
 /* The same for the plain implementation's call, after to_write. */
 uint8_t *to_expect(const lent *l);
+
+/* Prints how often nothing was lent by a null pointer. False where that is required and some memory never was. */
+bool lent_report(bool required);
 
 /* The room holds what is expected; after a refusal it is as it was. */
 void lent_check(const lent *l, bool refused);

@@ -90,7 +90,8 @@ void call_write_header(void)
     parts p = any_parts();
     readable f = p.firmware, c = p.custom;
     size_t near_header = HEADER - 2 + up_to(4);
-    size_t len = percent(85) ? HEADER : percent(50) ? near_header : up_to(MOST_BUFFER);
+    size_t other = percent(10) ? 0 : up_to(MOST_BUFFER);
+    size_t len = percent(85) ? HEADER : percent(50) ? near_header : other;
     uint8_t *out;
     uint32_t number, expected;
     any_bytes(lend(&buffer, len), len);

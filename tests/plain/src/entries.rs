@@ -1,8 +1,8 @@
 //! Entries on messages, headers and images.
+use crate::slices::{to_read, to_write};
 use frondicare_tests::entries::{Tag, Version};
 use frondicare_tests::writer::{Fields, Parts};
 use frondicare_tests::{header, sha256, writer};
-use std::slice::{from_raw_parts, from_raw_parts_mut};
 
 /// The longest message that has a digest.
 const MOST: usize = u32::MAX as usize;
@@ -21,7 +21,7 @@ unsafe extern "C" fn plain_digest(message: *const u8, message_len: usize, digest
     if message_len > MOST {
         return 12;
     }
-    store(Ok(sha256::digest(from_raw_parts(message, message_len))), digest)
+    store(Ok(sha256::digest(to_read(message, message_len))), digest)
 }
 
 #[no_mangle]
@@ -35,18 +35,18 @@ unsafe extern "C" fn plain_digest_of_two(
     if first_len + second_len > MOST {
         return 12;
     }
-    let pieces = (from_raw_parts(first, first_len), from_raw_parts(second, second_len));
+    let pieces = (to_read(first, first_len), to_read(second, second_len));
     store(Ok(sha256::digest_of_two(pieces.0, pieces.1)), digest)
 }
 
 #[no_mangle]
 unsafe extern "C" fn plain_verify(image: *const u8, image_len: usize, signature_ok: bool) -> u32 {
-    header::verify(from_raw_parts(image, image_len), signature_ok).err().unwrap_or(0)
+    header::verify(to_read(image, image_len), signature_ok).err().unwrap_or(0)
 }
 
 #[no_mangle]
 unsafe extern "C" fn plain_find_tag(header: *const u8, header_len: usize, kind: u16) -> Tag {
-    match header::find_tag(from_raw_parts(header, header_len), kind) {
+    match header::find_tag(to_read(header, header_len), kind) {
         Ok(header::Tag { at, len, .. }) => Tag { number: 0, at, len },
         Err(number) => Tag { number, at: 0, len: 0 },
     }
@@ -54,7 +54,7 @@ unsafe extern "C" fn plain_find_tag(header: *const u8, header_len: usize, kind: 
 
 #[no_mangle]
 unsafe extern "C" fn plain_version_of(image: *const u8, image_len: usize) -> Version {
-    match header::version(from_raw_parts(image, image_len)) {
+    match header::version(to_read(image, image_len)) {
         Ok(version) => Version { number: 0, version },
         Err(number) => Version { number, version: 0 },
     }
@@ -70,7 +70,7 @@ macro_rules! writing {
             firmware: *const u8, firmware_len: usize, custom: *const u8, custom_len: usize, hint: &[u8; 32],
             $after: $last,
         ) -> u32 {
-            let (firmware, custom) = (from_raw_parts(firmware, firmware_len), from_raw_parts(custom, custom_len));
+            let (firmware, custom) = (to_read(firmware, firmware_len), to_read(custom, custom_len));
             let $parts = Parts { fields, firmware, custom, hint };
             $body
         }
@@ -85,7 +85,7 @@ writing! {
 
 writing! {
     fn plain_write_header(buffer: *mut u8, buffer_len: usize, ..parts, signature: &[u8; 64]) {
-        let buffer = from_raw_parts_mut(buffer, buffer_len);
+        let buffer = to_write(buffer, buffer_len);
         writer::write_header(buffer, &parts, signature).err().unwrap_or(0)
     }
 }

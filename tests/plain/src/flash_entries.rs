@@ -1,4 +1,5 @@
 //! Entries on a flash and on the record of finished steps.
+use crate::slices::{to_read, to_write};
 use frondicare_tests::answers::RawAnswer;
 use frondicare_tests::decisions::{self, Signed};
 use frondicare_tests::flash::{Geometry, Slot};
@@ -6,7 +7,6 @@ use frondicare_tests::raw_step::RawStep;
 use frondicare_tests::requests;
 use frondicare_tests::runs::{self, Counts};
 use frondicare_tests::states::{self, SlotState};
-use std::slice::{from_raw_parts, from_raw_parts_mut};
 
 #[no_mangle]
 extern "C" fn plain_check_geometry(
@@ -41,51 +41,51 @@ macro_rules! on_flash {
 
 on_flash! {
     fn plain_apply_step(
-        flash = from_raw_parts_mut, geometry, op: u32, at: usize, to: usize, value: u32
+        flash = to_write, geometry, op: u32, at: usize, to: usize, value: u32
     ) -> u32 {
         RawStep { op, at, to, value }.apply(flash, &geometry)
     }
 }
 
 on_flash! {
-    fn plain_next_step(flash = from_raw_parts, geometry, boot_signed: bool, update_signed: bool) -> RawAnswer {
+    fn plain_next_step(flash = to_read, geometry, boot_signed: bool, update_signed: bool) -> RawAnswer {
         decisions::next_step(flash, &geometry, Signed { boot: boot_signed, update: update_signed }).into()
     }
 }
 
 on_flash! {
-    fn plain_trigger(flash = from_raw_parts, geometry) -> RawAnswer {
+    fn plain_trigger(flash = to_read, geometry) -> RawAnswer {
         requests::trigger(flash, &geometry).into()
     }
 }
 
 on_flash! {
-    fn plain_confirm(flash = from_raw_parts, geometry) -> RawAnswer {
+    fn plain_confirm(flash = to_read, geometry) -> RawAnswer {
         requests::confirm(flash, &geometry).into()
     }
 }
 
 on_flash! {
-    fn plain_boot_state(flash = from_raw_parts, geometry) -> SlotState {
+    fn plain_boot_state(flash = to_read, geometry) -> SlotState {
         states::slot_state(flash, &geometry, Slot::Boot)
     }
 }
 
 on_flash! {
-    fn plain_update_state(flash = from_raw_parts, geometry) -> SlotState {
+    fn plain_update_state(flash = to_read, geometry) -> SlotState {
         states::slot_state(flash, &geometry, Slot::Update)
     }
 }
 
 on_flash! {
-    fn plain_in_mid_swap(flash = from_raw_parts, geometry) -> bool {
+    fn plain_in_mid_swap(flash = to_read, geometry) -> bool {
         states::in_mid_swap(flash, &geometry)
     }
 }
 
 on_flash! {
     fn plain_run(
-        flash = from_raw_parts_mut, geometry,
+        flash = to_write, geometry,
         boot_signed: bool, update_signed: bool, number: u32, counts: &mut Counts
     ) -> RawAnswer {
         runs::run(flash, &geometry, Signed { boot: boot_signed, update: update_signed }, number, counts).into()

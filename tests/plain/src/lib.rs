@@ -2,3 +2,4 @@
 mod entries;
 mod flash_entries;
 mod generators;
+mod slices;
