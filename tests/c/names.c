@@ -22,6 +22,26 @@ static void constants(void)
     check(strcmp(frondicare_in_words(6), frondicare_in_words(UINT32_MAX)) == 0, "no such number");
 }
 
+/* Each name of a number, in the order of document 01's table. */
+static void numbers(void)
+{
+    static const uint32_t from_1[] = {
+        FRONDICARE_ERR_SECTOR_SIZE, FRONDICARE_ERR_SECTOR_COUNT, FRONDICARE_ERR_PLACE, FRONDICARE_ERR_OVERLAP,
+        FRONDICARE_ERR_SIMULATOR_INPUT,
+    }, from_10[] = {
+        FRONDICARE_ERR_HEADER_LENGTH, FRONDICARE_ERR_IMAGE_MARK, FRONDICARE_ERR_SIZE, FRONDICARE_ERR_TAG_PASSES_END,
+        FRONDICARE_ERR_TAG_MISSING, FRONDICARE_ERR_TAG_REPEATED, FRONDICARE_ERR_TAG_LENGTH, FRONDICARE_ERR_DIGEST,
+        FRONDICARE_ERR_SIGNATURE, FRONDICARE_ERR_VERSION, FRONDICARE_ERR_FLAGS, FRONDICARE_ERR_ON_TRIAL,
+        FRONDICARE_ERR_SWAP_BEGUN, FRONDICARE_ERR_NOTHING_ON_TRIAL, FRONDICARE_ERR_STEP, FRONDICARE_ERR_NO_SUCH_TAG,
+        FRONDICARE_ERR_CUSTOM_LENGTH, FRONDICARE_ERR_CUSTOM_TAGS, FRONDICARE_ERR_COUNTER, FRONDICARE_ERR_MOST_STEPS,
+    };
+    uint32_t i;
+    for (i = 0; i < sizeof from_1 / sizeof *from_1; i++)
+        check(from_1[i] == 1 + i, "a number's name, from 1");
+    for (i = 0; i < sizeof from_10 / sizeof *from_10; i++)
+        check(from_10[i] == 10 + i, "a number's name, from 10");
+}
+
 /* A written header has each, of the length that document 01 gives it, in the order of the writer. */
 static void tags(void)
 {
@@ -51,7 +71,7 @@ static void versions(void)
     check(v.number == FRONDICARE_ERR_SIZE && v.version == 0, "version of a cut image");
 }
 
-/* Of a slot that is sound with a byte that is no state, and of a geometry that is refused. */
+/* Of a slot that is sound with a byte that is no state, or is new, and of a geometry that is refused. */
 static void states(void)
 {
     frondicare_slot_state s;
@@ -59,6 +79,9 @@ static void states(void)
     memcpy(flash + UPDATE_STATE, "\x55" "BOOT", 5);
     s = frondicare_update_state(flash, FLASH, SECTOR, SECTORS, BOOT, UPDATE, SWAP);
     check(s.number == FRONDICARE_OK && s.state == 0x55, "another byte");
+    memcpy(flash + UPDATE_STATE, "\xff" "BOOT", 5);
+    s = frondicare_update_state(flash, FLASH, SECTOR, SECTORS, BOOT, UPDATE, SWAP);
+    check(s.number == FRONDICARE_OK && s.state == FRONDICARE_STATE_NEW, "new");
     s = frondicare_update_state(flash, FLASH, SECTOR, SECTORS, BOOT, UPDATE, UPDATE);
     check(s.number == FRONDICARE_ERR_OVERLAP && s.state == FRONDICARE_STATE_UNSOUND, "no state of UPDATE");
     s = frondicare_boot_state(flash, FLASH, SECTOR, SECTORS, BOOT, UPDATE, UPDATE);
@@ -156,6 +179,7 @@ static void with_a_geometry(void)
 int main(void)
 {
     constants();
+    numbers();
     tags();
     versions();
     states();

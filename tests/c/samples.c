@@ -4,6 +4,7 @@
 #include "frondicare_geometry.h"
 
 enum { FLASH_SIZE = FLASH, SECTOR_SIZE = SECTOR, SECTOR_COUNT = SECTORS, IMAGE = SECTORS * SECTOR };
+enum { SIGNATURE = 110 }; /* within an image */
 
 /* The flash's driver. */
 static bool worn;
@@ -110,7 +111,6 @@ static void lost(const uint8_t *start)
 /* An update is not taken where its own signature is damaged, and is where BOOT's is. */
 static void one_signed(const uint8_t *start)
 {
-    enum { SIGNATURE = 110 };
     size_t i;
     for (i = 0; i < 2; i++) {
         memcpy(flash, start, FLASH);
@@ -119,6 +119,23 @@ static void one_signed(const uint8_t *start)
         memcpy(flash, start, FLASH);
         flash[BOOT + SIGNATURE] ^= 1;
         check(samples[i]() && in_boot(NEW), "BOOT not signed");
+    }
+}
+
+/* The new image is damaged after its first sector is exchanged: the swap is finished, BOOT doesn't pass, and the same
+ * power-up returns to the old one. Where that is damaged too, there is none to be started. */
+static void damaged_in_mid_swap(const uint8_t *start)
+{
+    enum { STEPS = 8, OLD_END = 511 };
+    size_t i;
+    for (i = 0; i < 2; i++) {
+        check(cut(start, STEPS, NOT_BEGUN) && flash[UPDATE_FLAGS] == 0xf0, "one sector is exchanged");
+        flash[BOOT + SIGNATURE] ^= 1;
+        check(samples[i]() && in_boot(OLD) && has_states("\x10" "BOOT", "\x30" "BOOT"), "damaged in mid-swap");
+        check(cut(start, STEPS, NOT_BEGUN), "again");
+        flash[BOOT + SIGNATURE] ^= 1;
+        flash[BOOT + OLD_END] ^= 1;
+        check(!samples[i]() && has_states("\x10" "BOOT", "\x30" "BOOT"), "both damaged in mid-swap");
     }
 }
 
@@ -143,6 +160,7 @@ int main(void)
     memcpy(start, flash, FLASH);
     lost(start);
     one_signed(start);
+    damaged_in_mid_swap(start);
     given_up(start);
     losses = cut_everywhere(start);
     memcpy(flash, start, FLASH);
