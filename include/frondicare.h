@@ -60,11 +60,11 @@
  * driver. Verify it where it lies (frondicare_verify); if it passes, ask frondicare_trigger and carry out its step,
  * until it answers FRONDICARE_FINISHED. The next power-up swaps the image in. (examples/valve/requests.c does this.)
  * To confirm: the image on trial asks frondicare_confirm and carries out the step. Otherwise the next power-up returns
- * to the image before it, where that one passes; it is on trial then too.
+ * to the image before it, where that one passes; it is on trial then too, and has to confirm itself to stay.
  *
  * The rules:
  * - A call: every entry is proved against its contract in crates/frondicare/src. It ends, reads and writes only what it
- *   was lent, allocates and keeps nothing, and answers numbers of document 01 ("Numbers given back"), 0 for none. A
+ *   was lent, allocates and keeps nothing, and answers numbers of docs/RULES.md ("Numbers given back"), 0 for none. A
  *   refusal writes nothing; only a run may refuse after it has done steps, and these stay done.
  * - The caller: a pointer and its length describe memory that can be read; a flash is read as memory, also where a
  *   driver writes it. The pointer may be null where that length is 0, and no other may. A hint and a digest are 32
@@ -76,8 +76,9 @@
  *   nothing outside its sector; and a cut erase never leaves 42 4F 4F 54 at a slot's end.
  * - The signature checker: of the same image it says always the same. boot_signed and update_signed are what it says of
  *   the slots as they are; but in mid-swap of the slots before that swap, and no call looks at them before it is over.
- *   So a caller of frondicare_next_step checks both slots before each call, or keeps the answers and exchanges them
- *   when a step makes the last flag 0; a run does that itself.
+ *   So a caller of frondicare_next_step checks both slots before each call; where that is slow, only if it is not
+ *   mid-swap (frondicare_in_mid_swap), since there false will do. A run is told once, and exchanges the two itself when
+ *   a step makes the last flag 0.
  * - The machine, by the System V ABI: the stack pointer is a multiple of 16 at a call, an interrupt leaves the 128
  *   bytes below it alone, SSE2 registers can be used. A call takes at most 1,600 bytes of stack (a run; the others are
  *   in bench/RESULTS.md). The code has 24 KB at most, no data that is written, and calls memset and nothing else. */
@@ -115,7 +116,7 @@ enum frondicare_kind {
 /* The kinds of a step. */
 enum frondicare_op {
     FRONDICARE_ERASE = 0, /* the sector that starts at `at` becomes all FF */
-    FRONDICARE_COPY = 1,  /* the sector that starts at `at` is copied onto the one that starts at `to` */
+    FRONDICARE_COPY = 1,  /* the sector that starts at `at` is copied onto that at `to`, which in an answer is all FF */
     FRONDICARE_BYTE = 2,  /* value is written at `at` */
     FRONDICARE_MARK = 3   /* FRONDICARE_CLOSING_BYTES are written at `at` */
 };
@@ -264,8 +265,8 @@ bool frondicare_in_mid_swap(const uint8_t *flash, size_t flash_len,
                             size_t sector_size, size_t sector_count,
                             size_t boot, size_t update, size_t swap);
 
-/* The most steps that a run does, and so a power-up, whatever the flash holds: 2 (9 sector_count + 4). With so many a
- * run never answers a step that is due. 0 where sector_count is not 1 to 64. */
+/* No run does more steps, and so no power-up, whatever the flash holds: 2 (9 sector_count + 4). With so many a run
+ * never answers a step that is due. 0 where sector_count is not 1 to 64. */
 uint32_t frondicare_most_steps(size_t sector_count);
 
 /* The next step that triggers an update to the image in UPDATE, at most three in all, or finished. The
@@ -302,7 +303,8 @@ uint32_t frondicare_add_step(frondicare_step_counts *counts, uint32_t op);
  * false. The first that applies is answered. */
 uint32_t frondicare_verify(const uint8_t *image, size_t image_len, bool signature_ok);
 
-/* The version in an image's header; the firmware is not looked at. 10 to 16 as above. */
+/* The version in an image's header; the firmware is not looked at, but image_len must reach its end. 10 to 16 as
+ * above. */
 frondicare_version frondicare_version_of(const uint8_t *image, size_t image_len);
 
 /* The first tag of a type in a header; of a longer slice, such as an image, the first 256 bytes are

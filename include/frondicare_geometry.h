@@ -1,5 +1,6 @@
 /* The six numbers of a flash as one struct, and each entry of frondicare.h that takes them as NAME_on(flash, &geometry,
- * ..), with the same answer. C beside the library: nothing more is to be linked. */
+ * ..), with the same answer; frondicare_apply_step as frondicare_carry_out_on, which takes an answer's step. C beside
+ * the library: nothing more is to be linked. */
 #ifndef FRONDICARE_GEOMETRY_H
 #define FRONDICARE_GEOMETRY_H
 
