@@ -58,9 +58,10 @@
  * To update: ask frondicare_trigger, and carry nothing out yet. Where it refuses, leave UPDATE alone, since it may hold
  * the image to return to. Otherwise erase UPDATE, its trailer first, and write the image there with the flash's own
  * driver. Verify it where it lies (frondicare_verify); if it passes, ask frondicare_trigger and carry out its step,
- * until it answers FRONDICARE_FINISHED. The next power-up swaps the image in. (examples/valve/requests.c does this.)
- * To confirm: the image on trial asks frondicare_confirm and carries out the step. Otherwise the next power-up returns
- * to the image before it, where that one passes; it is on trial then too, and has to confirm itself to stay.
+ * until it answers FRONDICARE_FINISHED. The next power-up swaps the image in, if its version is greater than BOOT's.
+ * (examples/valve/requests.c does this.) To confirm: the image on trial asks frondicare_confirm in the same way. If it
+ * doesn't, the next power-up returns to the image before it, where that one passes; it is on trial then too, and has to
+ * confirm itself to stay.
  *
  * The rules:
  * - A call: every entry is proved against its contract in crates/frondicare/src. It ends, reads and writes only what it
@@ -308,7 +309,8 @@ uint32_t frondicare_verify(const uint8_t *image, size_t image_len, bool signatur
 frondicare_version frondicare_version_of(const uint8_t *image, size_t image_len);
 
 /* The first tag of a type in a header; of a longer slice, such as an image, the first 256 bytes are
- * read. A tag of length 0 is found too. The image is not verified.
+ * read. A tag of length 0 is found too. The image is not verified. And where it passes, digest and signature cover no
+ * tag behind the digest's: one may have been added there.
  * 10: shorter than 256; 13: a tag passes 256 before a match is met; 25: absent. */
 frondicare_tag frondicare_find_tag(const uint8_t *header, size_t header_len, uint16_t type);
 

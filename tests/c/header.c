@@ -50,6 +50,20 @@ static void written_and_read(void)
     image[HEADER] ^= 1;
 }
 
+/* The digest covers no tag behind its own: one that is added there is found in an image that passes. */
+static void added_behind_the_digest(void)
+{
+    static const uint8_t tag[] = { 0x43, 0x00, 0x01, 0x00, 'x' };
+    enum { CUSTOM = 38, BEHIND = 181 };
+    check(image[BEHIND - 1] == 0x44 && image[BEHIND] == 0xff, "padding follows the signature");
+    memcpy(image + BEHIND, tag, sizeof tag);
+    check(frondicare_verify(image, sizeof image, true) == 0 && found(0x0043, BEHIND + 4, "x", 1), "an added tag");
+    memset(image + BEHIND, 0xff, sizeof tag);
+    image[CUSTOM] ^= 1;
+    check(frondicare_verify(image, sizeof image, true) == 17, "a tag changed before the digest");
+    image[CUSTOM] ^= 1;
+}
+
 static void refused(void)
 {
     uint8_t buffer[HEADER + 1], untouched[HEADER + 1], digest[32];
@@ -136,6 +150,7 @@ int main(void)
     memset(hint, 0x33, sizeof hint);
     memset(signature, 0x44, sizeof signature);
     written_and_read();
+    added_behind_the_digest();
     refused();
     exchanged();
     refused_geometry();
