@@ -82,7 +82,7 @@
  *   a step makes the last flag 0.
  * - The machine, by the System V ABI: the stack pointer is a multiple of 16 at a call, an interrupt leaves the 128
  *   bytes below it alone, SSE2 registers can be used. A call takes at most 1,600 bytes of stack (a run; the others are
- *   in bench/RESULTS.md). The code has 24 KB at most, no data that is written, and calls memset and nothing else. */
+ *   in bench/RESULTS.md), beside memset's own. The code has 24 KB at most, no data that is written, and calls memset and nothing else. */
 #ifndef FRONDICARE_H
 #define FRONDICARE_H
 
@@ -91,8 +91,8 @@
 #include <stdint.h>
 
 /* What changed in which version: CHANGELOG.md. The number is for #if: 1.2.3 is 10203. */
-#define FRONDICARE_VERSION "0.3.0"
-#define FRONDICARE_VERSION_NUMBER 300
+#define FRONDICARE_VERSION "0.4.0"
+#define FRONDICARE_VERSION_NUMBER 400
 
 #define FRONDICARE_HEADER_SIZE 256
 /* A slot's last four bytes, where its trailer is sound: to initialize an array of bytes. */

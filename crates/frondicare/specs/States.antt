@@ -3,6 +3,8 @@ use Prim.Native.Nat.{ℕ, _<_}
 use mathlib.Core.Bool.{true}
 use mathlib.Core.List.{List}
 use mathlib.Core.Path.{_≡_}
+use lib.ListN.{length}
+use Rattle.flash.specs.Geometry.{geometryCheck}
 use Rattle.flash.specs.declared.geometry.Geometry.{Geometry}
 use Rattle.slots.specs.Answers.{soundAnswer, stateAnswer}
 use Rattle.slots.specs.declared.answers.SlotState.{SlotState}
@@ -22,3 +24,7 @@ pub record Tells (g : Geometry) (f : List ℕ) (s : Slot) (v : ℕ) : Type 0 whe
 
 abbrev pub StatesTold : Type 0
 StatesTold = (g : Geometry) (f : List ℕ) (s : Slot) (v : ℕ) → v < 256 → Tells g f s v
+
+-- the number is the geometry's, and 0 where that is accepted, sound or not
+abbrev pub StatesNumbered : Type 0
+StatesNumbered = (g : Geometry) (f : List ℕ) (s : Slot) → flatState (stateAnswer g f s) .number ≡ geometryCheck g (length f)

@@ -14,7 +14,7 @@ use Rattle.slots.specs.declared.answers.Progress.{Progress}
 use Rattle.slots.specs.declared.answers.Progress.the-variants as P
 use Rattle.slots.specs.declared.places.Slot.the-variants.{Update}
 use Rattle.slots.proofs.Reached.{new-at, updated-refused, flags-says}
-use Rattle.loader.specs.MidSwap.{midSwap, BegunExactlyThen}
+use Rattle.loader.specs.MidSwap.{midSwap, midSwapAnswer, BegunExactlyThen}
 use Rattle.loader.specs.Requests.{swapBegun}
 use Rattle.loader.specs.States.{staged}
 
@@ -27,8 +27,8 @@ by-tests true false true h = refl
 by-tests true false false h = refl
 
 pub begun-exactly-then : BegunExactlyThen
-unfolding swapBegun midSwap
-begun-exactly-then g f ok = by-tests (staged g f) (all new fs) (all updated fs) (apart (progressOf fs) refl)
+unfolding swapBegun midSwap midSwapAnswer
+begun-exactly-then g f ok = rw ok (by-tests (staged g f) (all new fs) (all updated fs) (apart (progressOf fs) refl))
   where
     fs : List ℕ
     fs = flags (g .count) (trailerOf g f Update)

@@ -46,4 +46,4 @@ NeverBoots = (g : Geometry) (f : List ℕ) → midSwapAnswer g f ≡ true → (c
 
 abbrev pub BegunExactlyThen : Type 0
 BegunExactlyThen = (g : Geometry) (f : List ℕ) → geometryCheck g (length f) ≡ 0
-    → swapBegun g f ≡ (midSwap g f || (staged g f && all updated (flags (g .count) (trailerOf g f Update))))
+    → swapBegun g f ≡ (midSwapAnswer g f || (staged g f && all updated (flags (g .count) (trailerOf g f Update))))

@@ -6,11 +6,12 @@ use mathlib.Core.Logic.{_⊎_, inl, inr}
 use mathlib.Core.Path.{_≡_, refl, ap, _∙_}
 use native.Mathlib.Decide.{decLt}
 use native.Mathlib.Omega.{arith}
-use borrow.Author.Tests.{le-leb, lt-leb}
-use lib.Dec.{eqb}
+use borrow.Author.Tests.{le-leb, lt-leb, leb-true}
+use lib.Dec.{eqb, leb}
 use lib.ListN.{length, length-append}
 use Rattle.flash.specs.Cuts.{Bytes}
-use Rattle.flash.specs.Geometry.{geometryCheck}
+use Rattle.compare.proofs.Tests.{and-right}
+use Rattle.flash.specs.Geometry.{geometryCheck, counted}
 use Rattle.flash.specs.declared.geometry.Geometry.{Geometry}
 use Rattle.flash.proofs.Areas.{valid}
 use Rattle.loader.specs.Checks.{Checks}
@@ -20,7 +21,7 @@ use Rattle.runner.specs.MostSteps.{stepBound, mostSteps}
 use Rattle.runner.specs.Runs.{Outcome, ends, runCheck, runOf}
 use Rattle.runner.specs.declared.counts.StepCounts.{StepCounts}
 use Rattle.power_loss.specs.OneByOne.{OneMore}
-use Rattle.power_loss.specs.RunEnds.{IsEnd, EndsWithMost}
+use Rattle.power_loss.specs.RunEnds.{IsEnd, EndsWithMost, MostTaken}
 use Rattle.power_loss.proofs.Ending.{run-ends}
 use Rattle.power_loss.proofs.OneByOne.{one-by-one}
 use Rattle.power_loss.proofs.RunSteps.{by-check}
@@ -89,3 +90,11 @@ module _ (checks : Checks) (g : Geometry) (a b : Bool) (f : List ℕ) (c : StepC
 
 pub ends-with-most : EndsWithMost
 ends-with-most checks g a b f c bytes m le = ended checks g a b f c bytes m le
+
+pub most-taken : MostTaken
+unfolding mostSteps
+most-taken n = go (counted n) refl
+  where
+    go : (x : Bool) → counted n ≡ x → cond x (stepBound n) 0 ≤ 4096
+    go true e = omega (arith, leb-true n 64 (and-right (leb 1 n) (leb n 64) e))
+    go false e = omega arith

@@ -31,3 +31,7 @@ RunEnds = (checks : Checks) (g : Geometry) (a b : Bool) (f : List ℕ) (c : Step
 abbrev pub EndsWithMost : Type 0
 EndsWithMost = (checks : Checks) (g : Geometry) (a b : Bool) (f : List ℕ) (c : StepCounts) → Bytes f
     → (m : ℕ) → mostSteps (g .count) ≤ m → IsEnd (runOf checks g m a b f c .answer)
+
+-- and a run takes that number: it is not refused for 29
+abbrev pub MostTaken : Type 0
+MostTaken = (n : ℕ) → mostSteps n ≤ 4096
