@@ -2,11 +2,14 @@
 import subprocess
 
 from commands.failure import Failed
-from commands.inputs import opened
+from commands.inputs import opened, told
 from commands.programs import built
 from model.refusals import in_words
 
 HELP = "the SHA-256 digest of a file"
+EXAMPLES = """examples:
+  ./frondicare digest README.md
+  git archive HEAD | ./frondicare digest"""
 
 
 def options(parser):
@@ -20,6 +23,6 @@ def run(given):
     if word == "REFUSE":
         raise Failed(f"refused: {in_words(int(number[0]))}")
     if word == "":
-        raise Failed(f"{given.file} cannot be read")
+        raise Failed(told(given.file, "it cannot be read"))
     print(word)
     return 0

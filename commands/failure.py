@@ -1,5 +1,9 @@
-"""What a command ends with where something failed or is refused: the text on standard error, and status 1."""
+"""How a command ends otherwise than done. The text goes to standard error."""
 
 
 class Failed(Exception):
-    pass
+    """Something failed or is refused: status 1."""
+
+
+class Misused(Exception):
+    """Options that do not go together: status 2, after the usage."""

@@ -1,15 +1,23 @@
 """./frondicare: its commands, their help and their exit status."""
 import argparse
 import re
+import shutil
 import signal
+import subprocess
 import sys
+import textwrap
+from importlib import import_module
 
-from commands import digest, explain, pack, picture, simulate
-from commands.failure import Failed
+from commands.failure import Failed, Misused
+from commands.inputs import told
+from commands.options import Shown
 from commands.programs import ROOT
+from commands.streams import Stopped, end_by, give_up_output, prepare
 
-COMMANDS = {"digest": digest, "pack": pack, "simulate": simulate, "explain": explain, "picture": picture}
-END = """exit status: 0 done; 1 something failed, or a board or an image is refused; 2 the command is not understood
+COMMANDS = ["digest", "pack", "verify", "simulate", "explain", "picture"]
+END = """./frondicare COMMAND --help says more about each, with examples.
+
+exit status: 0 done; 1 something failed, or a board or an image is refused; 2 the command is not understood
 
 A command proves and builds the program that it runs, where that has not been done since its last change. It waits while
 another one does that here; it cannot wait for plain rt, so call tools/rt with the same words."""
@@ -20,26 +28,61 @@ def version():
     return re.search(r'^#define FRONDICARE_VERSION "(.*)"', header, re.MULTILINE)[1]
 
 
-def parser():
-    front = argparse.ArgumentParser(prog="./frondicare", description="Frondicare's loader, for the desk.", epilog=END,
-                                    formatter_class=argparse.RawDescriptionHelpFormatter, allow_abbrev=False)
-    front.add_argument("--version", action="version", version=f"frondicare {version()}")
+def fitted(text):
+    """In lines of the terminal's width; examples as they are."""
+    width = min(shutil.get_terminal_size().columns, 120) - 2
+    parts = [part if part.startswith("examples:") else textwrap.fill(" ".join(part.split()), width)
+             for part in text.split("\n\n")]
+    return "\n\n".join(parts)
+
+
+def parser(words):
+    """Of a command that is named first, its file alone is loaded."""
+    layout = {"formatter_class": argparse.RawDescriptionHelpFormatter, "allow_abbrev": False, "add_help": False}
+    front = argparse.ArgumentParser(prog="./frondicare", description="Frondicare's loader, for the desk.",
+                                    epilog=fitted(END), **layout)
+    front.add_argument("-h", "--help", action=Shown, help="prints this")
+    front.add_argument("--version", action=Shown, text=f"frondicare {version()}", help="prints the version")
     commands = front.add_subparsers(metavar="COMMAND", dest="command", required=True)
-    for name, command in COMMANDS.items():
-        own = commands.add_parser(name, help=command.HELP, description=command.__doc__, allow_abbrev=False,
-                                  formatter_class=argparse.RawDescriptionHelpFormatter)
+    for name in words[:1] if words and words[0] in COMMANDS else COMMANDS:
+        command = import_module(f"commands.{name}")
+        own = commands.add_parser(name, help=command.HELP, description=fitted(command.__doc__),
+                                  epilog=fitted(getattr(command, "EXAMPLES", "")), **layout)
+        own.add_argument("-h", "--help", action=Shown, help="prints this")
         command.options(own)
-        own.set_defaults(run=command.run)
+        own.set_defaults(run=command.run, parser=own)
     return front
 
 
-def main(words):
-    """The exit status."""
-    signal.signal(signal.SIGPIPE, signal.SIG_DFL)
-    signal.signal(signal.SIGINT, signal.SIG_DFL)
-    given = parser().parse_args(words)
+def run(words):
+    """The exit status, with everything written."""
+    given = parser(words).parse_args(words)
     try:
-        return given.run(given)
-    except Failed as failure:
+        status = given.run(given)
+    except Misused as misuse:
+        given.parser.error(misuse)
+    except (Failed, subprocess.SubprocessError) as failure:
         print(f"./frondicare {given.command}: {failure}", file=sys.stderr)
+        status = 1
+    sys.stdout.flush()
+    return status
+
+
+def main(words):
+    """The exit status. What went wrong with standard output is seen here."""
+    prepare()
+    if sys.stdout is None:
+        print("./frondicare: standard output is closed", file=sys.stderr)
+        return 1
+    try:
+        return run(words)
+    except Stopped as stopped:
+        give_up_output()
+        return end_by(stopped.number)
+    except BrokenPipeError:
+        give_up_output()
+        return end_by(signal.SIGPIPE)
+    except OSError as error:
+        give_up_output()
+        print(f"./frondicare: {told(error.filename or 'standard output', error)}", file=sys.stderr)
         return 1

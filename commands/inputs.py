@@ -3,9 +3,14 @@ import sys
 
 from commands.failure import Failed
 
+# One byte more than the largest slot of document 01: nothing longer is an image or a board, and a program sees it.
+MOST = 64 * 4096 + 1
+
 
 def opened(name):
     """For reading bytes. A folder and a missing file are told by their name."""
+    if name == "-" and sys.stdin is None:
+        raise Failed("standard input is closed")
     if name == "-":
         return sys.stdin.buffer
     try:
@@ -16,10 +21,15 @@ def opened(name):
 
 def contents(name):
     try:
-        return opened(name).read()
+        with opened(name) as file:
+            return file.read(MOST)
     except OSError as error:
         raise Failed(told(name, error)) from error
 
 
+def named(name):
+    return "standard input" if name == "-" else name or "a file without a name"
+
+
 def told(name, error):
-    return f"{name or 'a file without a name'}: {getattr(error, 'strerror', None) or error}"
+    return f"{named(name)}: {getattr(error, 'strerror', None) or error}"

@@ -8,6 +8,9 @@ from commands.programs import built
 from picture.words import refusal_text
 
 HELP = "the loader's steps on a board, as document 01 prints them"
+EXAMPLES = """examples:
+  ./frondicare simulate examples/board/update.bin
+  ./frondicare simulate < examples/board/return.bin"""
 
 
 def options(parser):
