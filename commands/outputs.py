@@ -18,8 +18,8 @@ def work_folder():
         raise Failed(told(error.filename or "a temporary folder", error)) from error
 
 
-def can_be_written(name):
-    """Looked at before anything is proved. A device or a pipe cannot be replaced by a file, and is not."""
+def can_be_written(name, read):
+    """Looked at before anything is proved. A device or a pipe is not replaced by a file, nor is what is read."""
     path = Path(os.path.realpath(name))
     if name == "" or path.is_dir() or (path.exists() and not path.is_file()):
         raise Failed(told(name, "no file that can be written"))
@@ -27,6 +27,8 @@ def can_be_written(name):
         raise Failed(told(name, "its folder is not there"))
     if not os.access(path.parent, os.W_OK):
         raise Failed(told(name, "its folder cannot be written"))
+    if path in [Path(os.path.realpath(other)) for other in read]:
+        raise Failed(told(name, "it would be replaced, and it is read too"))
 
 
 def write_whole(name, data):

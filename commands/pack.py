@@ -78,45 +78,52 @@ def answer(*words):
     return done.stdout
 
 
-def words_for(given, files, folder):
-    """The program's words but for the signature, with copies of the files: each is read once, a pipe too."""
-    for name, data in files.items():
-        (folder / name).write_bytes(data)
-    stamp = int(time.time()) if given.timestamp == "now" else given.timestamp
-    return [built("pack"), folder / "firmware", *map(str, (given.version, stamp, given.type)), folder / "hint",
-            folder / "custom"]
+def everything_read(given):
+    """The files' bytes and the key, before anything is proved."""
+    names = {name: getattr(given, name) for name in FILES if getattr(given, name) is not None}
+    for name in given.output, given.digest_out:
+        if name is not None:
+            can_be_written(name, [*names.values(), given.key or ""])
+    files = {"custom": b"".join(given.custom_tag or []), **{name: contents(names[name]) for name in names}}
+    key = read_key(given.key) if given.key is not None else None
+    if given.output is not None and given.signature is None and key.private is None:
+        raise Failed(f"{key.name}: a public key, and signing takes the private one")
+    return {"hint": key and key.hint(), **files}, key
 
 
-def signed(given, key, files, folder, digest):
+def signed(given, files, key, folder, digest):
     """The signature, which fits the key where there is one."""
-    if "signature" not in files:
+    if given.signature is None:
         return key.sign(folder, digest)
     if key is not None and not key.fits(folder, digest, files["signature"]):
         raise Failed(told(given.signature, f"no signature over the digest {digest.hex()} by {key.name}"))
     return files["signature"]
 
 
-def run(given):
-    check_usage(given)
-    files = {name: contents(getattr(given, name)) for name in FILES if getattr(given, name) is not None}
-    files.setdefault("custom", b"".join(given.custom_tag or []))
-    for name in given.output, given.digest_out:
-        if name is not None:
-            can_be_written(name)
-    key = read_key(given.key) if given.key is not None else None
-    if given.output is not None and given.signature is None and key.private is None:
-        raise Failed(f"{key.name}: a public key, and signing takes the private one")
-    files.setdefault("hint", key and key.hint())
+def packed(given, files, key):
+    """The digest, and the image where one is to be written. The program gets copies: a pipe is read once."""
+    stamp = int(time.time()) if given.timestamp == "now" else given.timestamp
+    numbers = map(str, (given.version, stamp, given.type))
     with work_folder() as folder:
-        words = words_for(given, files, folder)
+        for name, data in files.items():
+            (folder / name).write_bytes(data)
+        words = [built("pack"), folder / "firmware", *numbers, folder / "hint", folder / "custom"]
         digest = bytes.fromhex(answer(*words).decode())
         if given.output is None:
-            if given.digest_out is not None:
-                write_whole(given.digest_out, digest)
-            print(digest.hex())
-            return 0
-        (folder / "signature").write_bytes(signed(given, key, files, folder, digest))
-        image = answer(*words, folder / "signature")
+            return digest, None
+        (folder / "signature").write_bytes(signed(given, files, key, folder, digest))
+        return digest, answer(*words, folder / "signature")
+
+
+def run(given):
+    check_usage(given)
+    files, key = everything_read(given)
+    digest, image = packed(given, files, key)
+    if image is None:
+        if given.digest_out is not None:
+            write_whole(given.digest_out, digest)
+        print(digest.hex())
+        return 0
     write_whole(given.output, image)
     by = f"signed by {key.name}" if key else "with the signature given, which was not checked: there is no --key"
     print(f"{given.output}: version {given.version}, {len(files['firmware'])} bytes of firmware, {by}")

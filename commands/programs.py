@@ -58,7 +58,7 @@ def built(name):
     if shutil.which("rt") is None:
         raise Failed(NO_RT)
     with subprocess.Popen(["sh", "-c", UNDER_LOCK, name], cwd=ROOT, stdin=subprocess.DEVNULL, stdout=subprocess.PIPE,
-                          text=True) as rt:
+                          text=True, errors="replace") as rt:
         try:
             said = check(name, rt)
         except BaseException:

@@ -19,7 +19,7 @@ class Caller:
         (self.programs / "rt").chmod(0o755)
         # Nobody waits for the lock, as there is nothing to spoil.
         self.environment = {**os.environ, "PATH": f"{self.programs}:{os.environ['PATH']}",
-                            "FRONDICARE_LOCKED": str(ROOT)}
+                            "FRONDICARE_LOCKED": str(ROOT), "PYTHONUNBUFFERED": ""}
         self.calls = 0
 
     def run(self, *words, **more):

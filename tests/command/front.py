@@ -20,6 +20,7 @@ READING = ["digest", "simulate", "explain", "picture", "verify"]
 # Commands that have no examples in their help yet.
 UNSHOWN = "explain", "picture"
 BOARD = ROOT / "examples/board/update.bin"
+PACK = ["pack", BOARD, "--version", "2", "--hint", ROOT / "crates/pack/data/hint"]
 
 
 def check_help(caller):
@@ -64,7 +65,7 @@ def check_streams(caller):
     """Closed, full, and a pipe that nobody reads."""
     closed = [("standard input is closed", [command, "-"]) for command in READING]
     caller.all_refused_at_once(1, closed, preexec_fn=lambda: os.close(0))
-    for words in (["digest", BOARD], ["simulate", BOARD], ["picture", BOARD], ["--help"], ["--version"]):
+    for words in (["digest", BOARD], ["simulate", BOARD], ["picture", BOARD], PACK, ["--help"], ["--version"]):
         with open("/dev/full", "wb") as full:
             done = caller.run(COMMAND, *words, capture_output=False, stdout=full, stderr=subprocess.PIPE)
         assert (done.returncode, done.stderr) == (1, "./frondicare: standard output: No space left on device\n"), done

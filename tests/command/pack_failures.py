@@ -58,6 +58,10 @@ def check_files(caller):
     for name in ("taken", "missing/new", "/dev/null", "firmware/new", ""):
         cases += [(f"{name or 'without a name'}: ", [*words, name])
                   for words in ([*SIGNED, "--output"], [*HINTED, "--digest-out"])]
+    cases += [(f"./{name}: it would be replaced", [*words, f"./{name}"])
+              for words, name in (([*SIGNED, "--output"], "firmware"), ([*SIGNED, "--output"], "signature"),
+                                  ([*SHORT, "--key", "desk.pem", "--output"], "desk.pem"),
+                                  ([*HINTED, "--digest-out"], "hint"))]
     cases += [(f"{name}: not an Ed25519 key", [*SHORT, "--key", name])
               for name in ("montgomery.pem", "montgomery.pub", "rsa.pem", "rsa.pub")]
     cases += [(f"{name}: openssl finds no key there", [*SHORT, "--key", name]) for name in ("hint", "empty", "longer")]
