@@ -29,10 +29,9 @@ def version():
 
 
 def fitted(text):
-    """In lines of the terminal's width; examples as they are."""
+    """In lines of the terminal's width; a part with indented lines as it is."""
     width = min(shutil.get_terminal_size().columns, 120) - 2
-    parts = [part if part.startswith("examples:") else textwrap.fill(" ".join(part.split()), width)
-             for part in text.split("\n\n")]
+    parts = [part if "\n  " in part else textwrap.fill(" ".join(part.split()), width) for part in text.split("\n\n")]
     return "\n\n".join(parts)
 
 

@@ -20,7 +20,14 @@ EXAMPLES = """examples:
   ./frondicare pack --version 2 --timestamp now --key target/desk.pem --output target/image.bin README.md
 
 A FILE may be -, standard input. A number is decimal, or hexadecimal with 0x before it. The image is written whole or
-not at all: on any failure an old one stays. Those who know wolfBoot's sign or imgtool: README.md has a table."""
+not at all: on any failure an old one stays.
+
+as wolfBoot's keytools have it:
+  sign --ed25519 IMAGE KEY 2      pack --version 2 --key KEY --output OUT IMAGE
+  sign --sha-only ..              pack without --output
+  sign --manual-sign ..           pack with --signature
+  --custom-tlv 0x34 4 0xAABBCCDD  --custom-tag 0x34=DDCCBBAA
+  keygen --ed25519 ..             openssl genpkey -algorithm ed25519 -out KEY"""
 FILES = "firmware", "hint", "custom", "signature"
 
 

@@ -78,6 +78,7 @@ digest new &
 until_true grep -qs . new.err
 digest behind &
 until_true wait_said 1 behind
+sleep 1.5 # longer than a proof that is not told
 touch go
 wait
 answered new behind
