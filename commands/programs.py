@@ -14,8 +14,8 @@ ROOT = Path(__file__).resolve().parents[1]
 STAMPS = ROOT / "target/stamp"
 MINUTES = {"digest": "about a minute", "simulator": "about four minutes", "pack": "about two minutes",
            "verify": "about two minutes"}
-# What was proved before is not told.
 PROVED = re.compile(r"rt: \S+ proved \(\d+ s\)")
+UNCHANGED = "proved (unchanged since it was last proved)\n"
 # Prints a line when nobody else proves here.
 UNDER_LOCK = '. tools/lock.sh && echo && exec tools/rt check "$0"'
 NO_RT = 'rt, the command of the Rattle kit, is not on the PATH (README.md, "What it needs")'
@@ -38,16 +38,17 @@ def say_what_is_proved(name, before):
 
 
 def check(name, rt):
-    """What rt says. What it proves is told: when that begins, if it takes a while, and with each crate."""
+    """What rt says but for what is proved. That is told: when it begins, if it takes a while, and with each crate."""
     said, _ = [], rt.stdout.readline()
     before = stamps()
     signal.signal(signal.SIGALRM, lambda *_: say_what_is_proved(name, before))
     signal.alarm(1)
     try:
         for line in rt.stdout:
-            said.append(line)
             if PROVED.match(line):
                 say(line.rstrip())
+            elif not line.endswith(UNCHANGED):
+                said.append(line)
     finally:
         signal.alarm(0)
     return said
@@ -65,5 +66,5 @@ def built(name):
             rt.terminate()
             raise
     if rt.returncode != 0:
-        raise Failed("".join([*said[-40:], f"{name} is not proved"]))
+        raise Failed(f"{name} is not proved. rt says:\n{''.join(said[-40:]).rstrip()}")
     return ROOT / "target/bin" / name

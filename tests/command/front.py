@@ -125,6 +125,10 @@ def check_installed(caller, few):
                                    for words in (["verify", BOARD, *key], ["pack", BOARD, "--version", "2", *key])],
                                **bare)
     caller.refused(1, "rt, the command of the Rattle kit, is not on the PATH", "digest", BOARD, **bare)
+    (few / "rt").write_text("#!/bin/sh\necho 'rt: show proved (unchanged since it was last proved)'\n"
+                            "echo 'rt: digest NOT PROVED (exit 1, 0 s)'\nexit 1\n")
+    (few / "rt").chmod(0o755)
+    caller.refused(1, "digest: digest is not proved. rt says:\nrt: digest NOT PROVED", "digest", BOARD, **bare)
     copy = caller.folder / "copy"
     for name in ("commands", "model", "picture", "include"):
         shutil.copytree(ROOT / name, copy / name, ignore=shutil.ignore_patterns("__pycache__"))

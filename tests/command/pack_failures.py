@@ -55,7 +55,7 @@ def check_files(caller):
             words = [*SIGNED, "--custom", "empty", "--key", "desk.pem", "--output", "new"]
             words[words.index(option) + option.startswith("-")] = name
             cases.append((text, words))
-    for name in ("taken", "missing/new", "/dev/null", "firmware/new", ""):
+    for name in ("taken", "missing/new", "pipe", "firmware/new", ""):
         cases += [(f"{name or 'without a name'}: ", [*words, name])
                   for words in ([*SIGNED, "--output"], [*HINTED, "--digest-out"])]
     cases += [(f"./{name}: it would be replaced", [*words, f"./{name}"])
@@ -111,6 +111,8 @@ def main():
         for file, data in FILES.items():
             (caller.folder / file).write_bytes(data)
         (caller.folder / "taken").mkdir()
+        # In place of a device, which a mistake would replace for everybody.
+        os.mkfifo(caller.folder / "pipe")
         check_usage(caller)
         check_files(caller)
         check_image(caller)
