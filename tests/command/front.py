@@ -116,7 +116,7 @@ def check_signals(caller, few):
 
 
 def check_installed(caller, few):
-    """openssl, rt and flock are missing, in turn; and no bytecode is written, which one may have no right to."""
+    """openssl is missing, then rt; a proof fails; and no bytecode is written, which one may have no right to."""
     for name in ("python3", "sh", "dirname", "flock"):
         (few / name).symlink_to(shutil.which(name))
     bare = {"env": {"PATH": str(few)}}
