@@ -46,9 +46,10 @@ def parser(words):
     for name in words[:1] if words and words[0] in COMMANDS else COMMANDS:
         command = import_module(f"commands.{name}")
         own = commands.add_parser(name, help=command.HELP, description=fitted(command.__doc__),
-                                  epilog=fitted(getattr(command, "EXAMPLES", "")), **layout)
+                                  epilog=getattr(command, "EXAMPLES", ""), **layout)
         own.add_argument("-h", "--help", action=Shown, help="prints this")
         command.options(own)
+        own.epilog = fitted(own.epilog)
         own.set_defaults(run=command.run, parser=own)
     return front
 
