@@ -6,6 +6,7 @@ from typing import NamedTuple
 
 from commands.failure import Failed
 from commands.inputs import contents, named, told
+from commands.streams import terminal_restored
 
 # Of an Ed25519 public key in DER (RFC 8410), what comes before its 32 bytes.
 DER = bytes.fromhex("302a300506032b6570032100")
@@ -13,7 +14,8 @@ DER = bytes.fromhex("302a300506032b6570032100")
 
 def openssl(*words, given):
     try:
-        return subprocess.run(["openssl", *words], input=given, capture_output=True)
+        with terminal_restored():
+            return subprocess.run(["openssl", *words], input=given, capture_output=True)
     except OSError as error:
         raise Failed(f"openssl, which signs and checks signatures, cannot be run: {error.strerror}") from error
 

@@ -2,6 +2,8 @@
 import os
 import signal
 import sys
+import termios
+from contextlib import contextmanager
 
 STOPPING = signal.SIGINT, signal.SIGTERM, signal.SIGHUP
 
@@ -32,6 +34,25 @@ def prepare():
     for number in STOPPING:
         if signal.getsignal(number) == signal.SIG_DFL:
             signal.signal(number, stop)
+
+
+@contextmanager
+def terminal_restored():
+    """Where what runs here is stopped while somebody types what is not to be seen: the terminal shows letters again."""
+    try:
+        terminal = os.open("/dev/tty", os.O_RDWR | os.O_NOCTTY | os.O_CLOEXEC)
+        state = termios.tcgetattr(terminal)
+    except (OSError, termios.error):
+        yield
+        return
+    try:
+        yield
+    except KeyboardInterrupt:
+        if os.tcgetpgrp(terminal) == os.getpgrp():
+            termios.tcsetattr(terminal, termios.TCSANOW, state)
+        raise
+    finally:
+        os.close(terminal)
 
 
 def give_up_output():

@@ -5,6 +5,7 @@ import os
 import pty
 import sys
 import tempfile
+import termios
 import time
 from pathlib import Path
 
@@ -85,7 +86,8 @@ def check_images(caller):
 
 
 def typed_in(caller, words, phrase):
-    """The status and what is said on a terminal where the pass phrase is typed whenever it is asked for."""
+    """The status and what is said on a terminal where the pass phrase is typed whenever it is asked for. In the end
+    what is typed can be seen there."""
     child, terminal = pty.fork()
     if child == 0:
         os.chdir(caller.folder)
@@ -100,6 +102,7 @@ def typed_in(caller, words, phrase):
                 os.write(terminal, phrase)
     except OSError:
         pass
+    assert termios.tcgetattr(terminal)[3] & termios.ECHO, said
     os.close(terminal)
     return os.waitstatus_to_exitcode(os.waitpid(child, 0)[1]), said
 
@@ -111,6 +114,8 @@ def check_pass_phrase(caller):
     assert status == 0 and b"signed by closed.pem" in said and said.count(b"pass phrase:") == 1, said
     status, said = typed_in(caller, words, b"shut\n")
     assert status == 1 and b"the pass phrase is wrong" in said, said
+    status, said = typed_in(caller, words, b"\x03")
+    assert status not in (0, 1) and b"Traceback" not in said, (status, said)
     caller.all_refused_at_once(1, [("closed.pem: openssl finds no key there", words[1:])], start_new_session=True)
 
 
