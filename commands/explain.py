@@ -6,6 +6,9 @@ from commands.programs import built
 from picture.explain import explained
 
 HELP = "the simulator's steps with plain words beside them"
+EXAMPLES = """examples:
+  ./frondicare explain examples/board/update.bin
+  ./frondicare explain examples/board/return.bin"""
 
 
 def options(parser):

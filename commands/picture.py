@@ -20,7 +20,11 @@ from picture.simulator import board_or_none, simulated
 from picture.words import refusal_text
 
 HELP = "an update drawn step by step, with power losses"
-END = """examples, with a board of 64 sectors:
+EXAMPLES = """examples:
+  ./frondicare picture examples/board/update.bin --cut 7
+  ./frondicare picture examples/board/update.bin --boots 2 --svg target/picture.svg
+
+with a board of 64 sectors:
   --cut 300                            the power is lost on step 300
   --cut 300 --rows 290-300,2:1-12      only the steps around the loss
   --cut 300 --all --svg update.svg     every step, into a file
@@ -47,7 +51,6 @@ def rows(text):
 
 
 def options(parser):
-    parser.epilog = END
     parser.add_argument("board", metavar="BOARD", help="an input of the simulator; - is standard input")
     parser.add_argument("--cut", metavar="STEP", type=at_least(0), action="append", default=[],
                         help="the power is lost on this step of the first power-up, counted from 1; once more for the "

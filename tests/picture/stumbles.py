@@ -29,7 +29,8 @@ def called(*words):
         for command in (explain, picture):
             stack.enter_context(patch.object(command, "built"))
         try:
-            given = front.parser().parse_args([str(word) for word in words])
+            words = [str(word) for word in words]
+            given = front.parser(words).parse_args(words)
             status = given.run(given)
         except Failed as failure:
             return 1, f"{failure}\n"

@@ -7,7 +7,8 @@ import sys
 from pathlib import Path
 
 ROOT = Path(__file__).resolve().parents[2]
-SEARCHED = ["crates", "tests", "include", "docs", "picture", "examples", "bench", "tools", "frondicare", "README.md"]
+SEARCHED = ["crates", "tests", "include", "docs", "picture", "commands", "examples", "bench", "tools", "frondicare",
+            "README.md"]
 # What begins a line of a comment or of a table.
 MARKERS = re.compile(r"\n[ \t]*(?://[/!]?|--|\*|#|\|)?[ \t]*")
 # From the paper's name to the end of the clause; the dot in a file's name doesn't end one.
