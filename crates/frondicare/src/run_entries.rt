@@ -40,7 +40,7 @@ pub extern "C" fn frondicare_run(
     flat_answer(run(flash, g, boot_signed, update_signed, most_steps, counts))
 }
 
-// The most steps that a run does; with this number it always ends.
+// No run does more steps, and with this number it always ends.
 #[no_mangle]
 pub extern "C" fn frondicare_most_steps(sector_count: usize) -> u32
     ensures { λ r. ⌜ r ≡ mostSteps «sector_count» ⌝ }

@@ -1,5 +1,5 @@
--- The most steps that a run does, by the number of image sectors. That it never does more, and with this number always ends, is claimed
--- in power_loss (`RunEnds`).
+-- A bound on the steps of a run, by the number of image sectors. That no run does more, that a run takes this number and that with it it
+-- always ends, is claimed in power_loss (`RunEnds`).
 use Prim.Native.Nat.{ℕ, _+_, _*_}
 use mathlib.Core.Bool.{cond}
 use Rattle.flash.specs.Geometry.{counted}

@@ -42,7 +42,7 @@ pub fn add_step(counts: &mut StepCounts, step: Step) -> u32
     refusal
 }
 
-// The most steps that a run does where a slot has count image sectors; 0 where that is not 1 to 64.
+// No run does more steps where a slot has count image sectors; 0 where that is not 1 to 64.
 pub fn most_steps(count: usize) -> u32
     ensures { λ r. ⌜ r ≡ mostSteps count ⌝ }
 {
