@@ -56,7 +56,11 @@ def parser(words):
 
 def run(words):
     """The exit status, with everything written."""
-    given = parser(words).parse_args(words)
+    given, others = parser(words).parse_known_args(words)
+    if others:
+        # The word after an unknown option is taken for something else: the options alone tell what is wrong.
+        unknown = [word for word in others if word.startswith("-")] or others
+        given.parser.error(f"unrecognized arguments: {' '.join(unknown)}")
     try:
         status = given.run(given)
     except Misused as misuse:

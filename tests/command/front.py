@@ -14,6 +14,7 @@ from pathlib import Path
 if __name__ == "__main__":
     sys.path.insert(0, str(Path(__file__).resolve().parents[2]))
 from tests.command.called import COMMAND, ROOT, Caller
+from tests.command.installed import check_installed
 
 COMMANDS = ["digest", "pack", "verify", "simulate", "explain", "picture"]
 READING = ["digest", "simulate", "explain", "picture", "verify"]
@@ -46,7 +47,9 @@ def check_usage(caller):
              ("--version", ["pack", "firmware"]), ("FIRMWARE", ["pack", "--version", "2"]),
              ("--ver", ["pack", "--ver", "2", "firmware"]), ("--key", ["verify", "image", "--key"]),
              ("--key is given twice", ["verify", "image", "--key", "one", "--key", "two"]),
-             ("--svg is given twice", ["picture", "board", "--svg", "one", "--svg", "two"])]
+             ("--svg is given twice", ["picture", "board", "--svg", "one", "--svg", "two"]),
+             ("verify: error: unrecognized arguments: two\n", ["verify", "one", "two"]),
+             ("pack: error: unrecognized arguments: -k\n", ["pack", "--version", "2", "-k", "key", "firmware"])]
     caller.all_refused_at_once(2, cases)
 
 
@@ -113,29 +116,6 @@ def check_signals(caller, few):
             assert (command.returncode, said) == (-number, b""), (command.args, number, command.returncode, said)
 
 
-def check_installed(caller, few):
-    """openssl is missing, then rt; a proof fails; and no bytecode is written, which one may have no right to."""
-    for name in ("python3", "sh", "dirname", "flock"):
-        (few / name).symlink_to(shutil.which(name))
-    bare = {"env": {"PATH": str(few)}}
-    key = ["--key", BOARD]
-    caller.all_refused_at_once(1, [("openssl, which signs and checks signatures, cannot be run", words)
-                                   for words in (["verify", BOARD, *key], ["pack", BOARD, "--version", "2", *key])],
-                               **bare)
-    caller.refused(1, "rt, the command of the Rattle kit, is not on the PATH", "digest", BOARD, **bare)
-    (few / "rt").write_text("#!/bin/sh\necho 'rt: show proved (unchanged since it was last proved)'\n"
-                            "echo 'rt: digest NOT PROVED (exit 1, 0 s)'\nexit 1\n")
-    (few / "rt").chmod(0o755)
-    caller.refused(1, "digest: digest is not proved. rt says:\nrt: digest NOT PROVED", "digest", BOARD, **bare)
-    copy = caller.folder / "copy"
-    for name in ("commands", "model", "picture", "include"):
-        shutil.copytree(ROOT / name, copy / name, ignore=shutil.ignore_patterns("__pycache__"))
-    shutil.copy(COMMAND, copy)
-    given = {name: value for name, value in os.environ.items() if name != "PYTHONDONTWRITEBYTECODE"}
-    assert caller.run(copy / "frondicare", "--version", env=given).returncode == 0
-    assert not [*copy.rglob("__pycache__")]
-
-
 def main():
     with tempfile.TemporaryDirectory(prefix="front") as name:
         caller, few = Caller(name), Path(name) / "few"
@@ -145,7 +125,7 @@ def main():
         check_files(caller)
         check_streams(caller)
         check_links(caller)
-        check_installed(caller, few)
+        check_installed(caller, few, BOARD)
         check_signals(caller, few)
     print(f"front: {caller.calls} calls passed")
 
