@@ -20,7 +20,11 @@ EXAMPLES = """examples:
   ./frondicare pack --version 2 --timestamp now --key target/desk.pem --output target/image.bin README.md
 
 A FILE may be -, standard input. A number is decimal, or hexadecimal with 0x before it. The image is written whole or
-not at all: on any failure an old one stays.
+not at all: an old one stays until the new one is whole.
+
+A custom tag has none of the types 0, 1, 2, 3, 0x10, 0x20 and 0x30, nor one that ends with FF, as 0x34FF. All of them
+have at most 82 bytes, 4 of each for its type and length. The signature is plain Ed25519 (no Ed25519ph) with the
+digest's 32 bytes as the message, as openssl pkeyutl -sign -rawin makes it.
 
 as wolfBoot's keytools have it:
   sign --ed25519 IMAGE KEY 2      pack --version 2 --key KEY --output OUT IMAGE
@@ -29,6 +33,8 @@ as wolfBoot's keytools have it:
   --custom-tlv 0x34 4 0xAABBCCDD  --custom-tag 0x34=DDCCBBAA
   keygen --ed25519 ..             openssl genpkey -algorithm ed25519 -out KEY"""
 FILES = "firmware", "hint", "custom", "signature"
+# What a refusal's own words leave open.
+MORE = {27: "; pack --help says what they may be"}
 
 
 def seconds(text):
@@ -79,7 +85,8 @@ def answer(*words):
     done = subprocess.run(words, stdin=subprocess.DEVNULL, capture_output=True)
     said = done.stderr.decode(errors="replace").strip()
     if said.startswith("REFUSE "):
-        raise Failed(f"refused: {in_words(int(said.split()[1]))}")
+        number = int(said.split()[1])
+        raise Failed(f"refused: {in_words(number)}{MORE.get(number, '')}")
     if said or done.returncode != 0:
         raise Failed(said or "the program was stopped")
     return done.stdout
@@ -102,6 +109,8 @@ def signed(given, files, key, folder, digest):
     """The signature, which fits the key where there is one."""
     if given.signature is None:
         return key.sign(folder, digest)
+    if len(files["signature"]) != 64:
+        raise Failed(told(given.signature, "the signature is not of 64 bytes"))
     if key is not None and not key.fits(folder, digest, files["signature"]):
         raise Failed(told(given.signature, f"no signature over the digest {digest.hex()} by {key.name}"))
     return files["signature"]

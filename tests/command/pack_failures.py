@@ -76,9 +76,10 @@ def check_image(caller):
     refusals = [("(12)", ["pack", "empty", *SIGNED[2:]]), ("longer than 261888", ["pack", "long", *SIGNED[2:]]),
                 ("longer than 261888", ["pack", "longer", *SIGNED[2:]]), ("(26)", [*SIGNED, "--custom", "many"]),
                 ("(27)", [*SIGNED, "--custom", "own"]), ("(27)", [*SIGNED, "--custom", "cut"]),
-                ("(26)", [*SIGNED, "--custom-tag", "49=" + "00" * 79]), ("(27)", [*SIGNED, "--custom-tag", "0x10="]),
+                ("(26)", [*SIGNED, "--custom-tag", "49=" + "00" * 79]),
+                ("(27); pack --help", [*SIGNED, "--custom-tag", "0x10="]),
                 ("hint is not of 32", [*SHORT, "--signature", "signature", "--hint", "short"]),
-                ("signature is not of 64", [*HINTED, "--signature", "hint"])]
+                ("hint: the signature is not of 64", [*SHORT, "--key", "desk.pub", "--signature", "hint"])]
     for image in ("new", "old"):
         caller.all_refused(1, [(text, [*words, "--output", image]) for text, words in refusals])
         # Copies of what is read have room, the image does not.
