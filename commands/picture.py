@@ -10,6 +10,7 @@ from pathlib import Path
 from commands.failure import Failed
 from commands.inputs import contents, told
 from commands.options import Once, at_least
+from commands.outputs import write_whole
 from commands.programs import built
 from picture import svg, text
 from picture.drawn import ALL, Part, drawn_rows
@@ -78,10 +79,15 @@ def printable(name):
 
 
 def saved(name, drawing, board):
+    """Whole, so that an old drawing stays where there is no room; a device or a pipe is written as it is."""
     try:
-        if board != "-" and Path(name).exists() and Path(name).samefile(board):
+        path = Path(name)
+        if board != "-" and path.exists() and path.samefile(board):
             raise Failed(f"{name} is the board")
-        Path(name).write_text(drawing, encoding="utf-8")
+        if path.exists() and not path.is_file():
+            path.write_text(drawing, encoding="utf-8")
+        else:
+            write_whole(name, drawing.encode())
     except (OSError, ValueError) as error:
         raise Failed(told(name, error)) from error
     return f"drawn into {printable(name)}"

@@ -1,6 +1,8 @@
 """What people stumbled over: options and files that cannot be, each told in a line, with its status."""
 import contextlib
+import errno
 import io
+import os
 import re
 from unittest.mock import patch
 
@@ -65,6 +67,11 @@ def check_files(folder, board):
     for name, told in ((folder, "Is a directory"), (folder / "none/a.svg", "No such file"), ("/dev/full", "No space")):
         answer, said = called("picture", board, "--svg", name)
         assert answer == 1 and said.startswith(f"{name}: {told}") and said.count("\n") == 1, said
+    old = folder / "old.svg"
+    old.write_text("an old drawing")
+    with patch.object(os, "fsync", side_effect=OSError(errno.ENOSPC, "No space left on device")):
+        assert called("picture", board, "--svg", old) == (1, f"{old}: No space left on device\n")
+    assert old.read_text() == "an old drawing"
 
 
 def check_names(folder, board):
