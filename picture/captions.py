@@ -30,7 +30,7 @@ def mended_text(row):
 
 def left_text(g, row, images):
     """What the cut step left."""
-    if row.step[0] in "BM":
+    if not row.wrote():
         return "not begun"
     contents, (area, i) = contents_of(g, row.flash, images), cell_written(g, row.step)
     if area == SWAP:

@@ -18,6 +18,10 @@ class Row(NamedTuple):
     # What a cut step should have left, this one or an earlier one, is there now.
     mended: bool = False
 
+    def wrote(self):
+        """A cut Byte or Mark has not begun."""
+        return self.step is not None and not (self.cut and self.step[0] in "BM")
+
 
 class PowerUp(NamedTuple):
     """It ends with BOOT and the version, REFUSE and the number, or CUT and the number of the step; and it leaves a

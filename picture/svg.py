@@ -11,8 +11,8 @@ from picture.words import NAMES
 
 # In the legend: before the samples, a sample's width and height, and how much room a letter is given.
 INDENT, SAMPLE, CELL, LETTER = 42, 36, 19, 6.5
-# After so many rows the heading comes again. In the title a letter is given more room.
-HEADED, BOLD = 36, 12
+# After so many rows the heading comes again, over so many at least. In the title a letter is given more room.
+HEADED, LEAST, BOLD = 36, 6, 12
 
 
 class Drawing:
@@ -62,10 +62,12 @@ class Drawing:
 
     def panel(self, rows):
         """Rows under a heading."""
-        for start in range(0, len(rows), HEADED):
-            if start > 0:
-                self.heading()
-            self.draw(rows[start:start + HEADED])
+        while len(rows) >= HEADED + LEAST:
+            self.draw(rows[:HEADED])
+            self.heading()
+            rows = rows[HEADED:]
+        if rows:
+            self.draw(rows)
 
     def draw(self, rows):
         """Rows over bands that show the areas; a cut one has a band across."""

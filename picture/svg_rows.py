@@ -96,13 +96,13 @@ class RowDrawing:
 
     def draw(self, row, y):
         contents = contents_of(self.g, row.flash, self.images)
-        written = dict([cell_written(self.g, row.step)] if row.step else [])
+        written = dict([cell_written(self.g, row.step)] if row.wrote() else [])
         self.page.open("row")
         self.words(row, y + self.foot)
         for slot in BOOT, UPDATE:
             self.slot(contents, slot, written, y)
         self.flags(contents, written, y)
         self.swap(contents.swap, y)
-        if row.step is not None:
+        if row.wrote():
             self.step(row.step, y)
         self.page.close()

@@ -22,7 +22,7 @@ def labels(images, spaced):
 
 
 def written_by(g, row):
-    return cell_written(g, row.step) if row.step else (None, None)
+    return cell_written(g, row.step) if row.wrote() else (None, None)
 
 
 def kinds_in_a_row(contents, slot, written):

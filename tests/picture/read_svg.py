@@ -42,7 +42,8 @@ def svg_row(group):
     arrows = [map(float, ARROW.match(path.get("d")).groups()) for path in group if path.get("class") == "arrow"]
     written = [names for frame in frames for x, _, names in spans if x == frame]
     copied = [under(start, spans) for start, end in arrows if [under(end, spans)] == written[0]]
-    assert len(frames) == (number > 0) and all(len(names) == 1 for names in written), ElementTree.tostring(group)
+    assert len(frames) == len(written) <= (number > 0), ElementTree.tostring(group)
+    assert all(len(names) == 1 for names in written), ElementTree.tostring(group)
     return Drawn(number, words, cells, written[0][0] if written else None, copied[0] if copied else None)
 
 

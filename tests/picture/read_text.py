@@ -62,7 +62,7 @@ class TextReader:
         cells["SWAP"] = self.label(line[self.swap:self.swap + 5])
         marked = self.marked(line, {slot: [sign for sign, _ in slots[slot]] for slot in SLOTS})
         number = int(line[:3].strip() or 0)
-        assert len(marked) == (number > 0) == line[:self.swap].count(">"), line
+        assert len(marked) == line[:self.swap].count(">") <= (number > 0), line
         return Drawn(number, self.words(line[self.swap + 5:]), cells, marked[0] if marked else None)
 
 
