@@ -1,6 +1,14 @@
 """Loaders that print wrong steps: the picture has to show what the steps do, and to say what is lost."""
+from model.board import record
+from model.simulator import simulate
 from picture import simulator
-from tests.picture.check import ROOT, check
+from tests.picture.check import ROOT, check, printed
+from tests.picture.drawn import Folded
+from tests.picture.read_text import read_text
+from tests.vectors.flash_case import MOST
+from tests.vectors.loader_case import BOTH
+from tests.vectors.loader_stories import triggered
+from tests.vectors.runner_updates import two
 
 DATA = (ROOT / "examples/board/update.bin").read_bytes()
 # Steps on the example board, and what has to be said of BOOT and of UPDATE.
@@ -14,13 +22,30 @@ WRONG = {
 }
 
 
+def stand_in(path, lines):
+    """In the simulator's place a program that prints these lines."""
+    wrong = path.with_name("wrong")
+    wrong.write_text(f"#!/bin/sh\ncat >/dev/null\ncat <<END\n{lines}END\n")
+    wrong.chmod(0o700)
+    simulator.PROGRAM = wrong
+
+
+def check_unlike(path):
+    """SWAP is never erased, so that only sector 0 is exchanged rightly, by the steps that all others have: these are
+    not folded as if they were like it."""
+    data = record(MOST, BOTH) + triggered(MOST, *two(MOST.n))
+    stand_in(path, simulate(data).replace(f"E {MOST.swap}\n", ""))
+    path.write_bytes(data)
+    folds = [row for row in read_text(printed(path), MOST.n).rows if isinstance(row, Folded)]
+    assert folds and folds[0].first == 2, folds
+
+
 def check_wrong_loaders(path):
-    right, wrong = simulator.PROGRAM, path.with_name("wrong")
+    right = simulator.PROGRAM
     for steps, slots in WRONG.items():
         lines = steps.replace("; ", "\n") + "\n"
-        wrong.write_text(f"#!/bin/sh\ncat >/dev/null\ncat <<END\n{lines}END\n")
-        wrong.chmod(0o700)
-        simulator.PROGRAM = wrong
+        stand_in(path, lines)
         findings = check(path, DATA, simulated=lambda data, lines=lines: lines)
         assert tuple(findings[-4:-2]) == slots, findings
+    check_unlike(path)
     simulator.PROGRAM = right
