@@ -2,10 +2,11 @@
 from model.board import record
 from model.simulator import simulate
 from picture import simulator
+from picture.findings import outside_text
 from tests.picture.check import ROOT, check, printed
 from tests.picture.drawn import Folded
 from tests.picture.read_text import read_text
-from tests.vectors.flash_case import MOST
+from tests.vectors.flash_case import GAPS, MOST
 from tests.vectors.loader_case import BOTH
 from tests.vectors.loader_stories import triggered
 from tests.vectors.runner_updates import two
@@ -40,6 +41,16 @@ def check_unlike(path):
     assert folds and folds[0].first == 2, folds
 
 
+def check_outside():
+    """No step that is accepted writes there. So it is asked of flashes that no loader leaves, a byte in the middle one
+    being another."""
+    found = bytes(GAPS.length)
+    for at in range(GAPS.length):
+        said = outside_text(GAPS, [found, found[:at] + b"\1" + found[at + 1:], found])
+        inside = any(at in area for area in GAPS.areas())
+        assert said == f"{'nothing' if inside else 'bytes'} outside the three areas changed", (at, said)
+
+
 def check_wrong_loaders(path):
     right = simulator.PROGRAM
     for steps, slots in WRONG.items():
@@ -48,4 +59,5 @@ def check_wrong_loaders(path):
         findings = check(path, DATA, simulated=lambda data, lines=lines: lines)
         assert tuple(findings[-4:-2]) == slots, findings
     check_unlike(path)
+    check_outside()
     simulator.PROGRAM = right
