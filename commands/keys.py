@@ -56,14 +56,15 @@ class Key(NamedTuple):
 
 
 def read_key(name):
-    """From PEM or DER, private or public."""
+    """From PEM or DER, private or public. Of a file with both parts the private one counts."""
     data = contents(name)
-    private = None if b"PUBLIC KEY" in data else openssl("pkey", given=data).stdout or None
+    named_private = b"PRIVATE KEY" in data
+    private = openssl("pkey", given=data).stdout or None if named_private or b"PUBLIC KEY" not in data else None
     if private is not None:
         der = openssl("pkey", "-pubout", "-outform", "DER", given=private)
-    elif b"PRIVATE KEY" not in data:
+    elif not named_private:
         der = openssl("pkey", "-pubin", "-outform", "DER", given=data)
-    if private is None and b"PRIVATE KEY" in data or der.returncode != 0:
+    if private is None and named_private or der.returncode != 0:
         pass_phrase = ", or the pass phrase is wrong" if b"ENCRYPTED" in data else ""
         raise Failed(told(name, f"openssl finds no key there{pass_phrase}"))
     if len(der.stdout) != len(DER) + 32 or not der.stdout.startswith(DER):

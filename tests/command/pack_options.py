@@ -27,6 +27,7 @@ def lay_out(folder):
     openssl("pkey", "-in", "desk.pem", "-aes256", "-passout", "pass:open", "-out", "closed.pem", folder=folder)
     for name, words in (("private", []), ("public", ["-pubout"])):
         openssl("pkey", "-in", "desk.pem", *words, "-outform", "DER", "-out", f"{name}.der", folder=folder)
+    (folder / "both.pem").write_text((folder / "desk.pub").read_text() + (folder / "desk.pem").read_text())
     for name, data in (("firmware", FIRMWARE), ("custom", CUSTOM), ("hint", hint(folder, "desk")), ("empty", b""),
                        ("signature", bytes(64))):
         (folder / name).write_bytes(data)
@@ -38,7 +39,7 @@ def check_digests(caller):
     plain = digest_to_sign((2, 0, 0), FIRMWARE, b"", hint(folder, "desk")).hex() + "\n"
     whole = digest_to_sign((2 ** 32 - 1, 2 ** 64 - 1, 513), FIRMWARE, CUSTOM, hint(folder, "desk")).hex() + "\n"
     for words in (["--hint", "hint"], ["--key", "desk.pem"], ["--key", "desk.pub"], ["--key", "public.der"],
-                  ["--key", "private.der"], ["--custom", "empty", "--key", "desk.pub"]):
+                  ["--key", "private.der"], ["--custom", "empty", "--key", "both.pem"]):
         assert caller.said("pack", *SHORT, *words) == plain, words
         assert caller.said("pack", *words, "--version", "0x2", "firmware") == plain, words
     fields = ["--timestamp", str(2 ** 64 - 1), "--type", "0x201", "--hint", "hint", "firmware", "--version",
