@@ -4,7 +4,8 @@ from typing import NamedTuple
 from model import header
 from model.flash import BOOT, UPDATE, check
 from model.refusals import refuse
-from model.slots import SPENT, TESTING, UPDATING, flag_step, image, progress, renewal, sound_with, state_byte
+from model.slots import (NEW, SPENT, TESTING, UPDATED, UPDATING, flag_step, flags, image, progress, renewal, sound_with,
+                         state_byte)
 
 VERSION_NOT_GREATER = 19
 
@@ -25,6 +26,12 @@ def verdict(geometry, flash, answers, slot):
 def version(geometry, flash, slot):
     """None where the slot's header fails one of the checks 11 to 16."""
     return header.version_or_none(image(geometry, flash, slot))
+
+
+def in_mid_swap(geometry, flash):
+    """The signature checker's answers are about the slots before the swap then."""
+    return (sound_with(geometry, flash, UPDATE, UPDATING)
+            and set(flags(geometry, flash)) not in ({NEW}, {UPDATED}))
 
 
 def last_steps(geometry, flash, answers):

@@ -1,7 +1,7 @@
 """The simulator's output with plain words beside it, and what the board was before."""
 from model.board import signed
 from model.flash import BOOT, UPDATE
-from model.loader import verdict, version
+from model.loader import in_mid_swap, verdict, version
 from model.refusals import in_words
 from model.slots import UPDATING, flags
 from picture.contents import trailer_of
@@ -36,7 +36,8 @@ def described(board):
     g, flash, _ = board
     slots = [f"{NAMES[slot]}: {image_text(g, flash, slot)}; {trailer_text(g, flash, slot)}" for slot in (BOOT, UPDATE)]
     words = [f"{NAMES[slot]} {'yes' if yes else 'no'}" for slot, yes in enumerate(signed(board.answers))]
-    return [*slots, f"signature checker: {', '.join(words)}"]
+    when = ", of the images before the swap" if in_mid_swap(g, flash) else ""
+    return [*slots, f"signature checker{when}: {', '.join(words)}"]
 
 
 def line(printed, text):

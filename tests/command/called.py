@@ -1,12 +1,20 @@
 """./frondicare as people call it, in a folder of its own. A stand-in for rt proves nothing, since the programs are
 proved already, and notes that it was called."""
 import os
+import signal
 import subprocess
 from concurrent.futures import ThreadPoolExecutor
 from pathlib import Path
 
 ROOT = Path(__file__).resolve().parents[2]
 COMMAND = ROOT / "frondicare"
+STOPPING = signal.SIGINT, signal.SIGTERM, signal.SIGHUP
+
+
+def hear_signals():
+    """For a process that begins: what a shell starts in the background ignores an interrupt otherwise."""
+    for number in STOPPING:
+        signal.signal(number, signal.SIG_DFL)
 
 
 class Caller:

@@ -13,7 +13,7 @@ from pathlib import Path
 
 if __name__ == "__main__":
     sys.path.insert(0, str(Path(__file__).resolve().parents[2]))
-from tests.command.called import COMMAND, ROOT, Caller
+from tests.command.called import COMMAND, ROOT, STOPPING, Caller, hear_signals
 from tests.command.installed import check_installed
 
 COMMANDS = ["digest", "pack", "verify", "simulate", "explain", "picture"]
@@ -105,8 +105,8 @@ def check_signals(caller, few):
     (few / "rt").write_text("#!/bin/sh\nexec sleep 60\n")
     (few / "rt").chmod(0o755)
     given = {"stdin": subprocess.PIPE, "stdout": subprocess.PIPE, "stderr": subprocess.PIPE,
-             "env": {**os.environ, "PATH": f"{few}:{os.environ['PATH']}"}}
-    for number in (signal.SIGINT, signal.SIGTERM, signal.SIGHUP):
+             "env": {**os.environ, "PATH": f"{few}:{os.environ['PATH']}"}, "preexec_fn": hear_signals}
+    for number in STOPPING:
         commands = [subprocess.Popen([COMMAND, *words], **given)
                     for words in (["digest", BOARD], ["simulate"], ["pack", "-", "--hint", BOARD, "--version", "2"])]
         time.sleep(0.8)

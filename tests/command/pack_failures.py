@@ -2,7 +2,6 @@
 """./frondicare pack where something is wrong: what it says, before anything is proved where that can be, and that it
 leaves the old image and nothing else."""
 import os
-import signal
 import subprocess
 import sys
 import tempfile
@@ -12,7 +11,7 @@ from pathlib import Path
 if __name__ == "__main__":
     sys.path.insert(0, str(Path(__file__).resolve().parents[2]))
 from model.writer import tag
-from tests.command.called import COMMAND, Caller
+from tests.command.called import COMMAND, STOPPING, Caller, hear_signals
 from tests.command.keys import make_key
 
 SHORT = ["pack", "firmware", "--version", "2"]
@@ -93,10 +92,10 @@ def check_stopped(caller):
     place = caller.folder / "place"
     place.mkdir()
     (caller.programs / "rt").write_text("#!/bin/sh\nexec sleep 60\n")
-    for number in (signal.SIGINT, signal.SIGTERM, signal.SIGHUP):
+    for number in STOPPING:
         given = {**caller.environment, "TMPDIR": str(place)}
         with subprocess.Popen([COMMAND, *SIGNED, "--output", "new"], cwd=caller.folder, env=given,
-                              stderr=subprocess.DEVNULL) as command:
+                              stderr=subprocess.DEVNULL, preexec_fn=hear_signals) as command:
             while not [*place.glob("*/firmware")]:
                 time.sleep(0.02)
             command.send_signal(number)

@@ -45,7 +45,9 @@ def check_described(begins, lines):
         if more:
             check_flags(g, begins.flash, more)
     answers = [f"{SLOTS[slot]} {'yes' if begins.answers >> slot & 1 else 'no'}" for slot in (BOOT, UPDATE)]
-    assert lines[2] == f"signature checker: {', '.join(answers)}", lines[2]
+    under_way = begins.trailer(UPDATE) == 0x70 and set(flags(g, begins.flash)) not in ({0xF}, {0})
+    when = ", of the images before the swap" if under_way else ""
+    assert lines[2] == f"signature checker{when}: {', '.join(answers)}", lines[2]
 
 
 def check_explained(data, shows, every=False):
