@@ -9,7 +9,7 @@ def check_installed(caller, few, board):
     """openssl is missing, then rt; a proof fails; and no bytecode is written, which one may have no right to."""
     for name in ("python3", "sh", "dirname", "flock"):
         (few / name).symlink_to(shutil.which(name))
-    bare = {"env": {"PATH": str(few)}}
+    bare = {"env": {**caller.environment, "PATH": str(few)}}
     key = ["--key", board]
     caller.all_refused_at_once(1, [("openssl, which signs and checks signatures, cannot be run", words)
                                    for words in (["verify", board, *key], ["pack", board, "--version", "2", *key])],
