@@ -1,4 +1,4 @@
-"""Document 01's header, read, and the verdict on an image."""
+"""Document 01's header, read, and the verdict on an image, with R-2 of document 02."""
 import hashlib
 import struct
 
@@ -6,6 +6,8 @@ from model.refusals import Refused, refuse
 
 VERSION, TIMESTAMP, DIGEST, HINT, SIGNATURE, FIRMWARE_TYPE = 0x0001, 0x0002, 0x0003, 0x0010, 0x0020, 0x0030
 MANDATORY = {VERSION: 4, TIMESTAMP: 8, DIGEST: 32, SIGNATURE: 64, FIRMWARE_TYPE: 2}
+# What the digest has to cover.
+COVERED = (VERSION, TIMESTAMP, FIRMWARE_TYPE)
 MARK = bytes.fromhex("57 4F 4C 46")
 
 
@@ -44,7 +46,7 @@ def view(header, kind):
 
 
 def check(image):
-    """Numbers 10 to 16. Gives the firmware's size."""
+    """Numbers 10 to 16 and 30. Gives the firmware's size."""
     refuse(len(image) < 256, 10)
     refuse(image[:4] != MARK, 11)
     size = int.from_bytes(image[4:8], "little")
@@ -55,6 +57,8 @@ def check(image):
         refuse(len(lengths) == 0, 14)
         refuse(len(lengths) > 1, 15)
         refuse(lengths[0] != right, 16)
+    places = {found: at for found, at, _ in tags}
+    refuse(any(places[kind] > places[DIGEST] for kind in COVERED), 30)
     return size
 
 
@@ -64,7 +68,7 @@ def version(image):
 
 
 def version_or_none(image):
-    """None where the header fails one of the checks 10 to 16."""
+    """None where the header fails one of the checks 10 to 16 and 30."""
     try:
         return version(image)
     except Refused:

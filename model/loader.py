@@ -24,7 +24,7 @@ def verdict(geometry, flash, answers, slot):
 
 
 def version(geometry, flash, slot):
-    """None where the slot's header fails one of the checks 11 to 16."""
+    """None where the slot's header fails one of the checks 11 to 16 and 30."""
     return header.version_or_none(image(geometry, flash, slot))
 
 

@@ -13,7 +13,7 @@ from model.refusals import Refused
 from tests.vectors import header_lookups, header_verdicts, header_writes, stored
 
 CASES = header_lookups.CASES + header_verdicts.CASES + header_writes.CASES
-NUMBERS = [10, 11, 12, 13, 14, 15, 16, 17, 18, 25, 26, 27]
+NUMBERS = [10, 11, 12, 13, 14, 15, 16, 17, 18, 25, 26, 27, 30]
 
 
 def record(case):
@@ -53,7 +53,7 @@ def main():
     numbers, texts = zip(*map(answer, CASES))
     stored.check((case, text) for case, text in zip(CASES, texts) if case.says is not None)
     assert set(numbers) == {0, *NUMBERS}, numbers
-    stored.write(CASES, texts, record, 64_000)
+    stored.write(CASES, texts, record, 131_000)
 
 
 if __name__ == "__main__":

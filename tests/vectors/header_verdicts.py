@@ -1,4 +1,4 @@
-"""Cases of the verdict, and of the version of an image that passes checks 10 to 16."""
+"""Cases of the verdict, and of the version of an image that passes checks 10 to 16 and 30."""
 import hashlib
 import struct
 
@@ -73,6 +73,43 @@ def each_mandatory():
     return cases
 
 
+# R-2: a type that the digest has to cover, with the tags of an image in which it stands right behind the digest.
+LATE = {"version": (T, Y, D, V, S), "timestamp": (V, Y, D, T, S), "firmware type": (V, T, D, Y, S)}
+
+
+def uncovered():
+    """Each of these, alone and with each other number. The digest is right where nothing else is said."""
+    cases = []
+    for name, tags in LATE.items():
+        first, second, _, late, _ = tags
+        content = 8 + len(first + second + D) + 4
+        cases += [
+            verify(f"{name} uncovered", image(*tags), 30),
+            verify(f"{name} uncovered, behind the signature", image(first, second, D, S, late), 30),
+            verify(f"{name} uncovered, padding between", image(PAD, first, second, D, PAD * 9, late, PAD, S), 30),
+            verify(f"{name} uncovered and changed", changed(image(*tags), content, 9), 30),
+            verify(f"{name} uncovered and too long", image(first, second, D, longer(late), S), 16),
+            verify(f"{name} uncovered twice", image(first, second, D, late, late, S), 15),
+            verify(f"{name} covered and uncovered", image(late, *tags), 15),
+            verify(f"13 before {name} uncovered", image(*tags, BAD), 13),
+            verify(f"14 before {name} uncovered", image(first, second, D, late), 14),
+            verify(f"15 before {name} uncovered, digest repeated", image(first, second, D, late, D, S), 15),
+            verify(f"16 before {name} uncovered, digest too long", image(first, second, longer(D), late, S), 16),
+            verify(f"16 before {name} uncovered, signature too short", image(first, second, D, late, shorter(S)), 16),
+            verify(f"{name} uncovered before 17", changed(image(*tags), 256, 0), 30),
+            verify(f"{name} uncovered before 18", image(*tags), 30, signature_ok=0),
+        ]
+    return cases
+
+
+UNCOVERED = [
+    verify("digest tag first", image(D, V, T, Y, S), 30),
+    verify("tags in reverse", image(S, D, H, Y, T, V), 30),
+    verify("signature first, firmware type behind the digest", image(S, V, T, D, Y), 30),
+    verify("timestamp missing, version uncovered", image(Y, D, V, S), 14),
+    verify("firmware type too short, version uncovered", image(T, D, V, shorter(Y), S), 16),
+    verify("firmware type repeated, version uncovered", image(T, Y, D, V, Y, S), 15),
+]
 PLAIN = image(V, T, Y, H, D, S)
 HALF = image(V, T, Y, D, S, firmware=bytes(256))
 # Document 01's bench cases, in an image of 512 bytes, with the answers that it states.
@@ -118,11 +155,15 @@ PASSED = [
     verify("image as the writer lays it out", PLAIN, "PASS"),
     verify("one firmware byte", image(V, T, Y, D, S, firmware=b"\x00"), "PASS"),
     verify("bytes after the firmware", PLAIN + b"after", "PASS"),
-    verify("tags in reverse", image(S, D, H, Y, T, V), "PASS"),
-    verify("digest tag first", image(D, V, T, Y, S), "PASS"),
-    verify("version tag after the digest", image(T, Y, D, S, V), "PASS"),
-    verify("version after the digest isn't digested", changed(image(D, V, T, Y, S), 48, 9), "PASS"),
+    verify("tags in reverse, but the digest last", image(S, H, Y, T, V, D), "PASS"),
+    verify("version right before the digest", image(Y, T, V, D, S), "PASS"),
+    verify("timestamp right before the digest", image(V, Y, T, D, S), "PASS"),
+    verify("signature before what is covered", image(S, V, T, Y, D), "PASS"),
     verify("signature isn't digested", changed(PLAIN, 110, 0), "PASS"),
+    verify("hint after the digest", image(V, T, Y, D, H, S), "PASS"),
+    verify("custom tag after the digest", image(V, T, Y, D, C, S), "PASS"),
+    verify("custom tag after the digest isn't digested", changed(image(V, T, Y, D, C, S), 74, 0), "PASS"),
+    verify("types 0100 and 3001 after the digest", image(V, T, Y, D, tag(0x0100, b"a"), tag(0x3001, b"b"), S), "PASS"),
     verify("padding between tags", image(PAD, V, PAD * 3, T, PAD, Y, PAD * 7, D, PAD * 2, S), "PASS"),
     verify("signature ends at 256", image(V, T, Y, D, PAD * 118, S), "PASS"),
     verify("digest ends at 256", image(V, T, Y, S, PAD * 118, D), "PASS"),
@@ -137,7 +178,7 @@ VERSIONS = [
     version("greatest version", image(tag(VERSION, b"\xff" * 4), T, Y, D, S), "4294967295"),
     version("version's bytes are little-endian", image(tag(VERSION, b"\x01\x02\x03\x04"), T, Y, D, S), "67305985"),
     version("version where the digest differs", changed(PLAIN, 256, 0), "5"),
-    version("version after the others", image(S, D, Y, T, V), "5"),
+    version("version after the others, before the digest", image(S, Y, T, V, D), "5"),
     version("version of a short image", PLAIN[:255], "REFUSE 10"),
     version("version where the mark is wrong", changed(PLAIN, 0, 0), "REFUSE 11"),
     version("version of size 0", sized(PLAIN, 0), "REFUSE 12"),
@@ -145,5 +186,6 @@ VERSIONS = [
     version("version without a signature tag", image(V, T, Y, D), "REFUSE 14"),
     version("two versions", image(V, T, Y, D, S, V), "REFUSE 15"),
     version("version of 5 bytes", image(longer(V), T, Y, D, S), "REFUSE 16"),
+    *[version(f"version where {name} is uncovered", image(*tags), "REFUSE 30") for name, tags in LATE.items()],
 ]
-CASES = BENCH + REFUSED + each_mandatory() + PASSED + VERSIONS
+CASES = BENCH + REFUSED + each_mandatory() + uncovered() + UNCOVERED + PASSED + VERSIONS

@@ -23,7 +23,7 @@ CASES = [case for topic in TOPICS for case in topic.CASES]
 GEOMETRY = each("REFUSE", 1, 2, 3, 4)
 # What each call has to answer somewhere; of a step the letter.
 ANSWERS = {
-    "n": GEOMETRY | each("REFUSE", *range(11, 19), 20) | each("BOOT", 0, *range(11, 20)) | {*"ECBM", "LAST B"},
+    "n": GEOMETRY | each("REFUSE", *range(11, 19), 20, 30) | each("BOOT", 0, *range(11, 20), 30) | {*"ECBM", "LAST B"},
     "t": GEOMETRY | each("REFUSE", 21, 22) | {*"EBM", "FINISHED"},
     "c": GEOMETRY | each("REFUSE", 22, 23) | {"B", "FINISHED"},
 }

@@ -19,6 +19,9 @@ BROKEN = {
     15: image(V, T, Y, D, S, V),
     16: image(V, T, shorter(Y), D, S),
     17: changed(PLAIN, 263, 0),
+    30: image(T, Y, D, S, V),
 }
+# The other two types that the digest has to cover, behind it.
+LATE_TYPES = {"timestamp": image(V, Y, D, T, S), "firmware type": image(V, T, D, S, Y)}
 # Padding before the version, and a type whose high byte is FF.
 PADDED = image(PAD, tag(0xFF34, b"b"), PAD * 3, V, PAD, T, Y, PAD * 2, D, S)

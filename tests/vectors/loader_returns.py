@@ -36,7 +36,7 @@ LAST = [
     Case("all updated, both signatures refused", "n", "B 1531 48", answers=NEITHER),
     Case("all updated, trigger", "t", "REFUSE 22"),
     Case("all updated, confirm", "c", "REFUSE 22"),
-    *[damaged(number, filled(BROKEN[number], ONE, B10, U70, flag_byte("00"))) for number in (11, 16, 17)],
+    *[damaged(number, filled(BROKEN[number], ONE, B10, U70, flag_byte("00"))) for number in (11, 16, 17, 30)],
     Case("all updated, UPDATE damaged, version greater", "n", "LAST B 1531 48",
          filled(ONE, BROKEN[17], B10, U70, flag_byte("00"))),
     Case("all updated, BOOT damaged, its trailer all FF", "n", "B 763 16",

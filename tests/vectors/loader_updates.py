@@ -1,6 +1,6 @@
 """Cases of an update that is to begin: UPDATE's verdict, and the version rule where BOOT isn't on trial."""
 from tests.vectors.loader_case import B10, BOOT_ONLY, BOTH, NEITHER, U70, UPDATE_ONLY, Case, filled
-from tests.vectors.loader_images import BROKEN, ONE, PADDED, TWO, written
+from tests.vectors.loader_images import BROKEN, LATE_TYPES, ONE, PADDED, TWO, written
 
 BEGINS = "C 768 1536"
 # Bits of the answers that don't count.
@@ -60,7 +60,12 @@ ON_TRIAL = [
 # BOOT's version, 5, counts where its header passes, though its digest fails.
 INSTALLED = [
     *[Case(f"BOOT's verdict {number}, lower version", "n", BEGINS, filled(BROKEN[number], ONE, U70))
-      for number in range(11, 17)],
+      for number in (*range(11, 17), 30)],
+    *[Case(f"BOOT's {name} uncovered, lower version", "n", BEGINS, filled(late, ONE, U70))
+      for name, late in LATE_TYPES.items()],
+    Case("BOOT's verdict 30, the same version", "n", BEGINS, filled(BROKEN[30], written(5), U70)),
+    Case("BOOT's verdict 30, lower version, UPDATE's signature refused", "n", "REFUSE 30",
+         filled(BROKEN[30], ONE, U70), BOOT_ONLY),
     Case("BOOT's verdict 17, lower version", "n", "REFUSE 17", filled(BROKEN[17], ONE, U70)),
     Case("BOOT's verdict 17, greater version", "n", BEGINS, filled(BROKEN[17], written(6), U70)),
     Case("BOOT empty", "n", BEGINS, filled(b"", ONE, U70)),
@@ -68,7 +73,10 @@ INSTALLED = [
 OFFERED = [
     *[Case(f"update refused with {number}", "n", f"BOOT {number}", filled(ONE, BROKEN[number], U70))
       for number in BROKEN],
+    *[Case(f"update refused, {name} uncovered", "n", "BOOT 30", filled(ONE, late, U70))
+      for name, late in LATE_TYPES.items()],
     Case("17 before 19", "n", "BOOT 17", filled(written(6), BROKEN[17], U70)),
+    Case("30 before 19", "n", "BOOT 30", filled(written(6), BROKEN[30], U70)),
     Case("update refused with 17, BOOT with 11", "n", "REFUSE 11", filled(BROKEN[11], BROKEN[17], U70)),
     Case("update refused with 11, BOOT with 17", "n", "REFUSE 17", filled(BROKEN[17], BROKEN[11], U70)),
     Case("UPDATE empty", "n", "BOOT 11", filled(ONE, b"", U70)),

@@ -35,9 +35,9 @@ TOPICS = [runner_refusals, runner_updates, runner_answers, runner_ends]
 CASES = [case for topic in TOPICS for case in topic.CASES]
 # What runs answer that did no step, and those that did; of a step the letter.
 ANSWERS = {
-    False: each("REFUSE", 1, 2, 3, 4, *range(11, 19), 20, 28, 29) | each("BOOT", 0, *range(11, 20))
+    False: each("REFUSE", 1, 2, 3, 4, *range(11, 19), 20, 28, 29, 30) | each("BOOT", 0, *range(11, 20), 30)
     | {*"ECBM", "LAST B"},
-    True: each("REFUSE", *range(11, 19)) | {"BOOT 0", *"ECBM", "LAST B"},
+    True: each("REFUSE", *range(11, 19), 30) | {"BOOT 0", *"ECBM", "LAST B"},
 }
 
 

@@ -1,6 +1,10 @@
 pub mod Numbers
 pub mod Walk
 pub mod Lookups
+pub mod Prefix
+pub mod Order
 pub mod Refusals
+pub mod Behind
 pub mod OneWalk
 pub mod Shown
+pub mod Coverage

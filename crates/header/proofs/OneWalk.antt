@@ -2,10 +2,10 @@
 -- Assumes nothing.
 use Prim.Native.Nat.{ℕ, _+_}
 use mathlib.Core.Bool.{Bool, true, false, cond}
-use mathlib.Core.List.{List, [], _∷_}
+use mathlib.Core.List.{List, [], _∷_, map}
 use mathlib.Core.Path.{_≡_, refl, ap, _∙_}
 use lib.Dec.{eqb}
-use Rattle.header.specs.Checks.{firstRefusal, walkCheck, mandatoryCheck, Mandatory, versionTag, timestampTag, digestTag, signatureTag, firmwareTag, tagsCheck}
+use Rattle.header.specs.Checks.{firstRefusal, walkCheck, mandatoryCheck, Mandatory, versionTag, timestampTag, digestTag, signatureTag, firmwareTag, mandatory, tagsCheck, coverageCheck}
 use Rattle.header.specs.Lookup.{ofKind}
 use Rattle.header.specs.Seen.{numberAfter, seenAfter, firstSeen}
 use Rattle.header.specs.Walk.{stepAt, Walk, onStep, walk}
@@ -14,6 +14,9 @@ use Rattle.header.specs.declared.tags.Tag.{Tag}
 use Rattle.header.specs.declared.tags.WalkStep.the-variants.{Stop, Padding, Met}
 use Rattle.header.specs.declared.tags.WalkStep.{WalkStep}
 use Rattle.compare.proofs.Tests.{by-test}
+use Rattle.header.proofs.Behind.{uncoveredAll, all-covered}
+use Rattle.header.proofs.Order.{Ordered}
+use Rattle.header.proofs.Refusals.{first-one, then-last}
 use Rattle.header.proofs.Walk.{walk-step}
 
 -- a type's number after some tags
@@ -65,7 +68,7 @@ seenAll s [] = s
 seenAll s (t ∷ ts) = seenAll (seenAfter s t) ts
 
 abbrev pub nothing : Seen
-nothing = record { version = 14; timestamp = 14; digest = 14; signature = 14; «firmware_type» = 14 }
+nothing = record { version = 14; timestamp = 14; digest = 14; signature = 14; «firmware_type» = 14; uncovered = false }
 
 each : (s : Seen) (ts : List Tag) →
     seenAll s ts ≡
@@ -75,6 +78,7 @@ each : (s : Seen) (ts : List Tag) →
       digest = numbersAfter digestTag (s .digest) ts;
       signature = numbersAfter signatureTag (s .signature) ts;
       «firmware_type» = numbersAfter firmwareTag (s .«firmware_type») ts;
+      uncovered = uncoveredAll (s .digest) (s .uncovered) ts;
     }
 each s [] = refl
 each s (t ∷ ts) = each (seenAfter s t) ts
@@ -83,17 +87,23 @@ each s (t ∷ ts) = each (seenAfter s t) ts
 abbrev pub checked : Seen → Walk → ℕ
 checked s w = firstRefusal (walkCheck (w .number) ∷ firstSeen (seenAll s (w .tags)) ∷ [])
 
-pub all-checked : (w : Walk) → checked nothing w ≡ firstRefusal (walkCheck (w .number) ∷ tagsCheck (w .tags) ∷ [])
+tags-checked : (ts : List Tag) → Ordered ts → firstSeen (seenAll nothing ts) ≡ firstRefusal (tagsCheck ts ∷ coverageCheck ts ∷ [])
 unfolding firstSeen tagsCheck
-all-checked w =
+tags-checked ts o =
     rw (
-      each nothing (w .tags),
-      seen-of versionTag (w .tags),
-      seen-of timestampTag (w .tags),
-      seen-of digestTag (w .tags),
-      seen-of signatureTag (w .tags),
-      seen-of firmwareTag (w .tags),
-    )
+      each nothing ts,
+      seen-of versionTag ts,
+      seen-of timestampTag ts,
+      seen-of digestTag ts,
+      seen-of signatureTag ts,
+      seen-of firmwareTag ts,
+    ) (then-last (map (λ (m : Mandatory). mandatoryCheck (m .len) (ofKind (m .kind) ts)) mandatory) _ _ (all-covered ts o))
+
+pub all-checked :
+    (w : Walk) →
+    Ordered (w .tags) →
+    checked nothing w ≡ firstRefusal (walkCheck (w .number) ∷ tagsCheck (w .tags) ∷ coverageCheck (w .tags) ∷ [])
+all-checked w o = rw (tags-checked (w .tags) o, first-one)
 
 -- the ways in which the checks go on from a step
 module _ (h : List ℕ) (p : ℕ) (s : Seen) where

@@ -2,10 +2,9 @@
 -- Assumes nothing.
 use Prim.Native.Nat.{ℕ, _-_, _%_}
 use mathlib.Core.Bool.{cond}
-use mathlib.Core.List.{List, [], _∷_, List·Memᴰ, List·Memᴰ·cases-cons, List·Memᴰ·not-nil}
-use mathlib.Core.Logic.{_⊎_, ⊎-elim}
-use mathlib.Core.Path.{_≡_, refl, sym, ap, subst, _∙_}
-use native.Mathlib.Omega.{arith}
+use mathlib.Core.List.{List, [], _∷_}
+use mathlib.Core.Logic.{_⊎_}
+use mathlib.Core.Path.{_≡_, refl, sym, ap, _∙_}
 use lib.Dec.{eqb}
 use borrow.Author.Tests.{eqb-true}
 use Rattle.header.specs.Lookup.{firstIn, lookup, ofKind, LookupsAgree}
@@ -13,18 +12,11 @@ use Rattle.header.specs.Walk.{Walk, walk, WalksStay}
 use Rattle.header.specs.declared.tags.Lookup.the-variants.{Found, Refused}
 use Rattle.header.specs.declared.tags.Lookup.{Lookup}
 use Rattle.header.specs.declared.tags.Tag.{Tag}
-use Rattle.header.proofs.Lookups.{not-found, later, long-enough, looked-up}
+use Rattle.header.proofs.Lookups.{not-found, long-enough, looked-up}
 use Rattle.header.proofs.Numbers.{low-byte}
+use Rattle.header.proofs.Order.{each-good}
 use Rattle.compare.proofs.Tests.{by-test}
-use Rattle.header.proofs.Walk.{Good, walk-step, walk-ind}
-
-each-good : (s : List ℕ) (e p : ℕ) (t : Tag) → List·Memᴰ t (walk s e p .tags) → Good s e p t
-each-good s e p t =
-    walk-ind s e (λ (q : ℕ) (w : Walk). List·Memᴰ t (w .tags) → Good s e q t)
-    (λ q n d m. absurd (List·Memᴰ·not-nil m))
-    (λ q r l b ih m. later (omega arith) (ih m))
-    (λ q u g ih m. ⊎-elim (λ same. subst (Good s e q) (sym same) g) (λ n. later (omega arith) (ih n)) (List·Memᴰ·cases-cons m))
-    p
+use Rattle.header.proofs.Walk.{walk-step, walk-ind}
 
 pub stays : WalksStay
 stays s e p =

@@ -1,4 +1,4 @@
--- Document 01, "Header" and "Numbers given back": the checks of a header, 10 to 16, in the paper's order.
+-- Document 01, "Header" and "Numbers given back", with document 02, R-2: the checks of a header, 10 to 16 and 30, in the papers' order.
 use Prim.Native.Nat.{ℕ, _+_}
 use mathlib.Core.Bool.{Bool, cond, _&&_}
 use mathlib.Core.List.{List, [], _∷_, map}
@@ -70,6 +70,20 @@ mandatory = versionTag ∷ timestampTag ∷ digestTag ∷ signatureTag ∷ firmw
 unfoldable pub tagsCheck : List Tag → ℕ
 tagsCheck ts = firstRefusal (map (λ (m : Mandatory). mandatoryCheck (m .len) (ofKind (m .kind) ts)) mandatory)
 
+-- R-2: the mandatory types whose tag the digest has to cover
+abbrev pub coveredTypes : List ℕ
+coveredTypes = versionType ∷ timestampType ∷ firmwareType ∷ []
+
+-- Of such a type's tags and the digest tags: 30 where the first does not start before the first digest tag. After check 16 each stands
+-- exactly once; where one is missing, 14 has said so.
+abbrev pub coveredCheck : List Tag → List Tag → ℕ
+coveredCheck [] ds = 0
+coveredCheck (t ∷ ts) [] = 0
+coveredCheck (t ∷ ts) (d ∷ ds) = cond (ltb (t .at) (d .at)) 0 30
+
+unfoldable pub coverageCheck : List Tag → ℕ
+coverageCheck ts = firstRefusal (map (λ (k : ℕ). coveredCheck (ofKind k ts) (ofKind digestType ts)) coveredTypes)
+
 -- the number of the first check that an image's header fails, and 0 where it fails none
 unfoldable pub headerCheck : List ℕ → ℕ
 headerCheck i =
@@ -79,6 +93,7 @@ headerCheck i =
     ∷ sizeCheck i
     ∷ walkCheck (headerWalk i .number)
     ∷ tagsCheck (headerWalk i .tags)
+    ∷ coverageCheck (headerWalk i .tags)
     ∷ [])
 
 -- the version of an image whose header passes; a refusal gives its number and nothing else

@@ -1,9 +1,9 @@
-// The checks of an image's header, 10 to 16, and the version of an image that passes them.
+// The checks of an image's header, 10 to 16 and 30, and the version of an image that passes them.
 ghost use mathlib.Core.List.{_∷_, []};
 ghost use mathlib.Core.Path.{_≡_};
 ghost use Rattle.header.specs.Walk.{headerWalk};
-ghost use Rattle.header.specs.Checks.{firstRefusal, marked, walkCheck, tagsCheck, headerCheck, versionOf};
-ghost use Rattle.header.specs.Seen.{numberAfter, seenAfter, firstSeen};
+ghost use Rattle.header.specs.Checks.{firstRefusal, marked, walkCheck, tagsCheck, coverageCheck, headerCheck, versionOf};
+ghost use Rattle.header.specs.Seen.{numberAfter, uncoveredAfter, seenAfter, firstSeen};
 use crate::DIGEST;
 use crate::FIRMWARE_TYPE;
 use crate::LENGTH;
@@ -33,13 +33,15 @@ fn is_marked(image: &[u8]) -> bool
         & (byte_at(image, 3) == 0x46)
 }
 
-// What the walk has met so far of each mandatory type: 14, 15, 16, or 0.
+// What the walk has met so far of each mandatory type: 14, 15, 16, or 0; and whether it has met a tag
+// behind a digest tag that the digest has to cover.
 struct Seen {
     version: u32,
     timestamp: u32,
     digest: u32,
     signature: u32,
     firmware_type: u32,
+    uncovered: bool,
 }
 
 // A type's number after one more tag.
@@ -57,6 +59,16 @@ fn after(number: u32, t: Tag, kind: u16, len: usize) -> u32
     }
 }
 
+// Whether something is uncovered after one more tag. digest is the digest's number before it: 14 where
+// the tag stands before the first digest tag.
+fn uncovered_after(uncovered: bool, t: Tag, digest: u32) -> bool
+    ensures { λ r. ⌜ r ≡ uncoveredAfter digest uncovered t ⌝ }
+{
+    uncovered
+        | ((digest != 14)
+            & ((t.kind == VERSION) | (t.kind == TIMESTAMP) | (t.kind == FIRMWARE_TYPE)))
+}
+
 fn seen_after(s: Seen, t: Tag) -> Seen
     ensures { λ r. ⌜ r ≡ seenAfter s t ⌝ }
 {
@@ -66,10 +78,11 @@ fn seen_after(s: Seen, t: Tag) -> Seen
         digest: after(s.digest, t, DIGEST, 32),
         signature: after(s.signature, t, SIGNATURE, 64),
         firmware_type: after(s.firmware_type, t, FIRMWARE_TYPE, 2),
+        uncovered: uncovered_after(s.uncovered, t, s.digest),
     }
 }
 
-// The mandatory types, in document 01's order.
+// The mandatory types, in document 01's order; then what the digest has to cover.
 fn first_seen(s: Seen) -> u32
     ensures { λ r. ⌜ r ≡ firstSeen s ⌝ }
 {
@@ -85,12 +98,16 @@ fn first_seen(s: Seen) -> u32
     if s.signature != 0 {
         return s.signature;
     }
-    s.firmware_type
+    if s.firmware_type != 0 {
+        return s.firmware_type;
+    }
+    if s.uncovered { 30 } else { 0 }
 }
 
-// 13 to 16, or 0, in one walk over the tags.
+// 13 to 16, 30, or 0, in one walk over the tags.
 fn check_tags(header: &[u8]) -> u32
-    ensures { λ r. ⌜ r ≡ firstRefusal (walkCheck (headerWalk (now (header .entry)) .number) ∷ tagsCheck (headerWalk (now (header .entry)) .tags) ∷ []) ⌝ }
+    ensures { λ r. ⌜ r ≡ firstRefusal (walkCheck (headerWalk (now (header .entry)) .number) ∷ tagsCheck (headerWalk (now (header .entry)) .tags)
+        ∷ coverageCheck (headerWalk (now (header .entry)) .tags) ∷ []) ⌝ }
 {
     let mut seen = Seen {
         version: 14,
@@ -98,6 +115,7 @@ fn check_tags(header: &[u8]) -> u32
         digest: 14,
         signature: 14,
         firmware_type: 14,
+        uncovered: false,
     };
     let mut p = FIRST;
     loop {
@@ -117,7 +135,7 @@ fn check_tags(header: &[u8]) -> u32
     }
 }
 
-// The number of the first of the checks 10 to 16 that an image's header fails, or 0.
+// The number of the first of the checks 10 to 16 and 30 that an image's header fails, or 0.
 pub fn check(image: &[u8]) -> u32
     ensures { λ r. ⌜ r ≡ headerCheck (now (image .entry)) ⌝ }
 {

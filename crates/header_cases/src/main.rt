@@ -133,7 +133,7 @@ fn cases(s: &[u8]) {
 }
 
 fn main() {
-    let mut buf = io::large_buffer();
-    let n = io::read_full(STDIN_FILENO, &mut buf);
-    cases(&buf[..n]);
+    let mut space = [0u8; 131_072];
+    let n = io::read_full(STDIN_FILENO, &mut space);
+    cases(&space[..n]);
 }

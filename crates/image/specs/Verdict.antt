@@ -13,9 +13,13 @@ use Rattle.sha256.specs.Digest.{digest}
 abbrev pub firmwareOf : List ℕ → List ℕ
 firmwareOf i = take (sizeOf i) (drop 256 i)
 
--- SHA-256 over the bytes from 0 up to the type of the first digest tag, followed by the firmware
+-- the bytes from 0 up to the type of the first digest tag, followed by the firmware
+abbrev pub messageOf : List ℕ → List ℕ
+messageOf i = coveredOf i ++ firmwareOf i
+
+-- SHA-256 over them
 unfoldable pub digestOf : List ℕ → List ℕ
-digestOf i = digest (coveredOf i ++ firmwareOf i)
+digestOf i = digest (messageOf i)
 
 abbrev pub digestCheck : List ℕ → ℕ
 digestCheck i = cond (same (viewOf i digestType) (digestOf i)) 0 17

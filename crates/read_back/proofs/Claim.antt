@@ -3,12 +3,12 @@
 use Prim.Native.Nat.{ℕ, _+_, _^_, _<_}
 use mathlib.Core.Bool.{Bool, true, cond}
 use mathlib.Core.List.{List, [], _∷_, _++_, map, append-nil}
-use mathlib.Core.Path.{_≡_, refl, sym, ap}
+use mathlib.Core.Path.{_≡_, refl, sym, ap, _∙_}
 use native.Mathlib.Omega.{arith}
 use lib.ListN.{length, replicate, length-append}
 use lib.Seq.{take-length}
-use borrow.Author.Tests.{le-ltb, ne-eqb}
-use Rattle.header.specs.Checks.{firstRefusal, lengthCheck, markCheck, sizeOf, sizeCheck, walkCheck, mandatoryCheck, tagsCheck, headerCheck, versionOf}
+use borrow.Author.Tests.{lt-ltb, le-ltb, ne-eqb}
+use Rattle.header.specs.Checks.{firstRefusal, markCheck, sizeOf, sizeCheck, mandatoryCheck, tagsCheck, coveredCheck, coverageCheck, headerCheck, versionOf}
 use Rattle.header.specs.Lookup.{ofKind}
 use Rattle.header.specs.Walk.{stepAt, walkIn, walk}
 use Rattle.header.specs.declared.tags.Tag.{Tag}
@@ -68,7 +68,11 @@ module _ (fields : Fields) (firmware custom hint signature : List ℕ)
         rw size-is
         (simp (ne-eqb (length firmware) 0 (ok .firmware-ok .some), le-ltb (length i) (256 + length firmware) (omega (arith, image-length))))
 
-    past-run : (k : ℕ) → named k ≡ true → ofKind k (map (moved 34) (tagsOf custom) ++ P.lastTags (length custom)) ≡ ofKind k (P.lastTags (length custom))
+    -- the tags of type k from the run on
+    abbrev others : ℕ → List Tag
+    others k = ofKind k (map (moved 34) (tagsOf custom) ++ P.lastTags (length custom))
+
+    past-run : (k : ℕ) → named k ≡ true → others k ≡ ofKind k (P.lastTags (length custom))
     past-run k m = kind-past k m (length custom) 34 (P.lastTags (length custom)) 0 (tagsOf custom) (ok .custom-ok .whole)
 
     tags-pass : tagsCheck (writtenTags custom) ≡ 0
@@ -81,12 +85,25 @@ module _ (fields : Fields) (firmware custom hint signature : List ℕ)
         (ap (mandatoryCheck 64) (past-run 0x0020 refl))
         (ap (λ (ts : List Tag). mandatoryCheck 2 (tagOf 0x0030 28 2 ∷ ts)) (past-run 0x0030 refl))
 
+    -- a tag before the run
+    before-digest : (t : Tag) (ts : List Tag) → t .at < 74 → coveredCheck (t ∷ ts) (ofKind 0x0003 (writtenTags custom)) ≡ 0
+    before-digest t ts l =
+        ap (coveredCheck (t ∷ ts)) (past-run 0x0003 refl)
+        ∙ ap (λ (b : Bool). cond {A = ℕ} b 0 30) (lt-ltb (t .at) (70 + length custom + 4) (omega arith))
+
+    coverage-passes : coverageCheck (writtenTags custom) ≡ 0
+    unfolding coverageCheck
+    coverage-passes =
+        rw (
+          before-digest (tagOf 0x0001 8 4) (others 0x0001) (omega arith),
+          before-digest (tagOf 0x0002 16 8) (others 0x0002) (omega arith),
+          before-digest (tagOf 0x0030 28 2) (others 0x0030) (omega arith),
+        )
+
     header-passes : headerCheck i ≡ 0
     unfolding headerCheck
     header-passes =
-        rw (reads .walked)
-        (all-five (lengthCheck i) (markCheck i) (sizeCheck i) (walkCheck 25) (tagsCheck (writtenTags custom))
-        (simp (le-ltb (length i) 256 (omega (arith, image-length)))) mark-passes size-passes refl tags-pass)
+        rw (reads .walked, le-ltb (length i) 256 (omega (arith, image-length)), mark-passes, size-passes, tags-pass, coverage-passes)
 
     digest-is : digestOf i ≡ d
     unfolding digestOf digestToSign

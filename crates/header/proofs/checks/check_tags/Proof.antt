@@ -4,10 +4,11 @@ use mathlib.Core.Path.{_≡_, sym, _∙_}
 use native.Mathlib.Omega.{arith}
 use borrow.Author.Needs.{needs}
 use borrow.Author.Tests.{eq-eqb, ne-eqb}
-use Rattle.header.specs.Checks.{firstRefusal, walkCheck, tagsCheck}
+use Rattle.header.specs.Checks.{firstRefusal, walkCheck, tagsCheck, coverageCheck}
 use Rattle.header.specs.Seen.{firstSeen}
 use Rattle.header.specs.Walk.{walk}
 use Rattle.header.proofs.OneWalk.{checked, all-checked, checked-stop, checked-padding, checked-tag}
+use Rattle.header.proofs.Order.{ordered}
 use Rattle.header.proofs.Refusals.{first-one}
 use Rattle.header.proofs.Walk.{Good, on}
 use Rattle.header.proofs.checks.check_tags.Statement.{statement}
@@ -16,20 +17,20 @@ use Rattle.header.proofs.checks.check_tags.Tie as tie
 abbrev Inv-loop : tie.InvT-loop
 Inv-loop header seen₀ p₀ seen p =
     let w = walk header 256 8 in
-    checked seen (walk header 256 p) ≡ firstRefusal (walkCheck (w .number) ∷ tagsCheck (w .tags) ∷ [])
+    checked seen (walk header 256 p) ≡ firstRefusal (walkCheck (w .number) ∷ tagsCheck (w .tags) ∷ coverageCheck (w .tags) ∷ [])
 
 abbrev μ-loop : tie.MeasureT-loop
 μ-loop header seen₀ p₀ seen p = 256 - p
 
 loop-holds : tie.Need-loop-holds Inv-loop μ-loop
-loop-holds c = all-checked (walk (c .before .args .header .now) 256 8)
+loop-holds c = let h = c .before .args .header .now in all-checked (walk h 256 8) (ordered h 256 8)
 
 -- what the walk that stops here comes to
 stopped :
     (c : tie.After-number Inv-loop μ-loop) →
     let l = c .before .before .before in
     let w = walk (l .before .before .args .header .now) 256 8 in
-    firstRefusal (walkCheck (c .number .given .0 .0) ∷ firstSeen (l .loop .seen) ∷ []) ≡ firstRefusal (walkCheck (w .number) ∷ tagsCheck (w .tags) ∷ [])
+    firstRefusal (walkCheck (c .number .given .0 .0) ∷ firstSeen (l .loop .seen) ∷ []) ≡ firstRefusal (walkCheck (w .number) ∷ tagsCheck (w .tags) ∷ coverageCheck (w .tags) ∷ [])
 stopped c =
     let s = c .before .before in
     sym (checked-stop _ _ (s .before .loop .seen) (sym (s .walk-step .ensures) ∙ c .number .given .1)) ∙ s .before .loop .inv

@@ -1,0 +1,116 @@
+-- Where the header passes, version, timestamp and firmware type lie in what the digest covers; and headers with the same covered part
+-- agree on them.
+-- Assumes nothing.
+use Prim.Native.Nat.{ℕ, _+_, _-_, _<_, _≤_}
+use mathlib.Core.List.{List, [], _∷_, map}
+use mathlib.Core.Path.{_≡_, refl, sym, ap, _∙_}
+use native.Mathlib.Omega.{arith}
+use lib.Dec.{ltb}
+use lib.ListN.{length, take, length-take}
+use lib.Seq.{length-take-le, take-take}
+use borrow.Author.Tests.{ltb-true, lt-ltb}
+use Rattle.compare.proofs.Tests.{by-test}
+use Rattle.header.specs.Checks.{coveredTypes, coveredCheck, coverageCheck}
+use Rattle.header.specs.Coverage.{Covered, CoverageChecked}
+use Rattle.header.specs.Lookup.{lookup, viewOf, beforeTag, coveredOf, ofKind}
+use Rattle.header.specs.Types.{versionType, timestampType, digestType, firmwareType}
+use Rattle.header.specs.Walk.{headerWalk}
+use Rattle.header.specs.declared.tags.Lookup.the-variants.{Found, Refused}
+use Rattle.header.specs.declared.tags.Lookup.{Lookup}
+use Rattle.header.specs.declared.tags.Tag.{Tag}
+use Rattle.header.proofs.Lookups.{InHeader, looked-up}
+use Rattle.header.proofs.Order.{apart, ordered, first-is}
+use Rattle.header.proofs.Prefix.{part-of, lookup-same}
+use Rattle.header.proofs.Refusals.{zero-at, Once, passed}
+use Rattle.header.proofs.Shown.{agrees}
+
+-- what the digest covers ends where the digest tag starts
+pub covered-length : (i : List ℕ) {d : Tag} → lookup i digestType ≡ Found d → length (coveredOf i) + 4 ≡ d .at
+covered-length i {d} f = let g : InHeader i d = looked-up i digestType f in rw (f, length-take-le (d .at - 4) i (omega arith)) (omega arith)
+
+abbrev checkOf : List ℕ → ℕ → ℕ
+checkOf i k = coveredCheck (ofKind k (headerWalk i .tags)) (ofKind digestType (headerWalk i .tags))
+
+-- a tag that starts before the digest's is covered
+starts-before :
+    (i : List ℕ) →
+    256 ≤ length i →
+    (k : ℕ) {m n : ℕ} →
+    Once m (ofKind k (headerWalk i .tags)) →
+    Once n (ofKind digestType (headerWalk i .tags)) →
+    checkOf i k ≡ 0 →
+    Covered i k
+starts-before i long k o p e =
+    let tags = headerWalk i .tags in
+    let t = o .tag in
+    let d = p .tag in
+    let found = agrees i k .found t [] long (o .is) in
+    let digest = agrees i digestType .found d [] long (p .is) in
+    let before : t .at < d .at =
+    by-test (λ (r : ℕ). r ≡ 0 → t .at < d .at) (ltb (t .at) (d .at)) (λ b e. ltb-true _ _ b) (λ b e. absurd (omega arith))
+    (rw (o .is, p .is) at e) in
+    let ends : t .at + t .len + 4 ≤ d .at = apart tags (ordered i 256 8) (first-is k tags (o .is)) (first-is digestType tags (p .is)) before in
+    record {
+      tag = t;
+      found = found;
+      inside = omega (arith, covered-length i digest);
+      shown = rw (found, digest) (sym (part-of (t .at) (t .len) (d .at - 4) i (omega arith)));
+    }
+
+-- a covered tag starts before the digest's
+covered-passes :
+    (i : List ℕ) (k : ℕ) →
+    Covered i k →
+    (ts ds : List Tag) →
+    ofKind k (headerWalk i .tags) ≡ ts →
+    ofKind digestType (headerWalk i .tags) ≡ ds →
+    coveredCheck ts ds ≡ 0
+covered-passes i k c [] ds e f = refl
+covered-passes i k c (t ∷ ts) [] e f = refl
+covered-passes i k c (t ∷ ts) (d ∷ ds) e f =
+    let long = looked-up i k (c .found) .long in
+    let found : lookup i k ≡ Found t = agrees i k .found t ts long e in
+    let same : t ≡ c .tag = cc in
+    let at : t .at ≡ c .tag .at = ap (λ (t : Tag). t .at) same in
+    rw (lt-ltb (t .at) (d .at) (omega (arith, covered-length i (agrees i digestType .found d ds long f))))
+
+pub coverage-checked : CoverageChecked
+unfolding coverageCheck
+coverage-checked =
+    record {
+      covered = λ i e.
+          let ok = passed i e in
+          let zeros = zero-at (map (checkOf i) coveredTypes) in
+          let each = ok .tags in
+          record {
+            version = starts-before i (ok .long) versionType (each .version) (each .digest) (zeros 0 (ok .coverage));
+            timestamp = starts-before i (ok .long) timestampType (each .timestamp) (each .digest) (zeros 1 (ok .coverage));
+            «firmware-type» = starts-before i (ok .long) firmwareType (each .«firmware-type») (each .digest) (zeros 2 (ok .coverage));
+          };
+      no-more = λ i c.
+          rw (
+            covered-passes i versionType (c .version) _ _ refl refl,
+            covered-passes i timestampType (c .timestamp) _ _ refl refl,
+            covered-passes i firmwareType (c .«firmware-type») _ _ refl refl,
+          );
+    }
+
+-- what is covered is the header's start
+pub covered-start : (i : List ℕ) (m : ℕ) → m ≤ length (coveredOf i) → take m (coveredOf i) ≡ take m i
+covered-start i m = go (lookup i digestType)
+  where
+    go : (r : Lookup) → m ≤ length (beforeTag i r) → take m (beforeTag i r) ≡ take m i
+    go (Found d) l = take-take m (d .at - 4) i (omega (arith, simp length-take at l))
+    go (Refused n) l = let z : m ≡ 0 = omega arith in rw z
+
+-- headers with the same covered part agree on what is covered
+pub covered-same : (i j : List ℕ) (k : ℕ) → coveredOf i ≡ coveredOf j → Covered i k → Covered j k → viewOf i k ≡ viewOf j k
+covered-same i j k e c d =
+    let t = c .tag in
+    let inside : t .at + t .len ≤ length (coveredOf j) = rw e at (c .inside) in
+    let same : take (t .at) i ≡ take (t .at) j =
+    sym (covered-start i (t .at) (omega (arith, c .inside))) ∙ ap (take (t .at)) e ∙ covered-start j (t .at) (omega arith) in
+    let found : lookup j k ≡ Found t =
+    lookup-same i j (t .at) same k (omega arith) (looked-up j k (d .found) .long) (c .found) in
+    let tag : d .tag ≡ t = cc in
+    c .shown ∙ rw (e, ← tag) (sym (d .shown))

@@ -1,0 +1,72 @@
+-- What a lookup finds stands before the end of its content: headers that are the same up to there agree on it.
+-- Assumes nothing.
+use Prim.Native.Nat.{ℕ, zero, suc, _+_, _<_, _≤_}
+use mathlib.Core.Bool.{Bool, true, false, cond}
+use mathlib.Core.List.{List, [], _∷_}
+use mathlib.Core.Path.{_≡_, refl, sym, ap, _∙_}
+use native.Mathlib.Omega.{arith}
+use lib.Dec.{eqb}
+use lib.ListN.{length, take, drop}
+use lib.Seq.{getD-take, take-take}
+use Rattle.header.specs.Lookup.{first, lookup}
+use Rattle.header.specs.Numbers.{byteAt, numberAt}
+use Rattle.header.specs.Walk.{stepAt, onStep, walk}
+use Rattle.header.specs.declared.tags.Lookup.the-variants.{Found}
+use Rattle.header.specs.declared.tags.Tag.{Tag}
+use Rattle.header.specs.declared.tags.WalkStep.the-variants.{Stop, Padding, Met}
+use Rattle.header.specs.declared.tags.WalkStep.{WalkStep}
+use Rattle.header.proofs.Lookups.{found-good, long-enough, looked-up}
+use Rattle.header.proofs.Walk.{GoodStep, walk-step, step-good}
+
+-- a part of the first m
+pub part-of : (at n m : ℕ) (l : List ℕ) → at + n ≤ m → take n (drop at (take m l)) ≡ take n (drop at l)
+part-of zero n m l h = take-take n m l (omega arith)
+part-of (suc a) n zero l h = absurd (omega arith)
+part-of (suc a) n (suc m) [] h = refl
+part-of (suc a) n (suc m) (x ∷ l) h = part-of a n m l (omega arith)
+
+-- bytes that are the same up to place m
+module _ (h g : List ℕ) (m : ℕ) (same : take m h ≡ take m g) where
+  byte-same : (p : ℕ) → p < m → byteAt h p ≡ byteAt g p
+  byte-same p l = sym (getD-take m h p 0 l) ∙ ap (λ (s : List ℕ). byteAt s p) same ∙ getD-take m g p 0 l
+
+  pub number-same : (n p : ℕ) → p + n ≤ m → numberAt n h p ≡ numberAt n g p
+  unfolding numberAt
+  number-same zero p l = refl
+  number-same (suc n) p l = rw (byte-same p (omega arith), number-same n (p + 1) (omega arith))
+
+  step-same : (e p : ℕ) → p + 4 ≤ m → stepAt h e p ≡ stepAt g e p
+  unfolding stepAt
+  step-same e p l = rw (byte-same p (omega arith), number-same 2 p (omega arith), number-same 2 (p + 2) (omega arith))
+
+  module _ (e k : ℕ) {t : Tag} (before : t .at ≤ m) where
+    by-step :
+        (p : ℕ) →
+        ((q : ℕ) → p < q → first k (walk h e q) ≡ Found t → first k (walk g e q) ≡ Found t) →
+        (w : WalkStep) →
+        GoodStep h e p w →
+        first k (onStep (walk h e) w) ≡ Found t →
+        first k (onStep (walk g e) w) ≡ Found t
+    by-step p ih (Stop n) s f = f
+    by-step p ih (Padding q) s f = ih q (s .0) f
+    by-step p ih (Met u) s f = go (eqb (u .kind) k) f
+      where
+        go :
+            (b : Bool) →
+            cond b (Found u) (first k (walk h e (u .at + u .len))) ≡ Found t →
+            cond b (Found u) (first k (walk g e (u .at + u .len))) ≡ Found t
+        go true f = f
+        go false f = ih (u .at + u .len) (omega arith) f
+
+    -- the tag is found behind place p, so what is read at p stands before place m
+    first-same : (room p : ℕ) → e ≤ p + room → first k (walk h e p) ≡ Found t → first k (walk g e p) ≡ Found t
+    first-same zero p r f = let found = found-good h e p k f in absurd (omega arith)
+    first-same (suc room) p r f =
+        let found = found-good h e p k f in
+        rw (walk-step g e p, ← step-same e p (omega arith))
+        (by-step p (λ q l. first-same room q (omega arith)) (stepAt h e p) (step-good h e p) (rw (walk-step h e p) at f))
+
+  pub lookup-same : (k : ℕ) {t : Tag} → t .at ≤ m → 256 ≤ length g → lookup h k ≡ Found t → lookup g k ≡ Found t
+  lookup-same k {t} l long f =
+      long-enough g k long
+      ∙ first-same 256 k l 256 8 (omega arith) (sym (long-enough h k (looked-up h k f .long)) ∙ f)
