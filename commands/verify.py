@@ -9,6 +9,7 @@ from commands.keys import read_key
 from commands.options import Once
 from commands.outputs import work_folder
 from commands.programs import built
+from model.header import FIRMWARE_TYPE, TIMESTAMP, VERSION, uncovered, walk
 from model.refusals import in_words
 
 HELP = "what an image is, and whether the loader takes it"
@@ -17,6 +18,9 @@ EXAMPLES = """examples:
   ./frondicare verify target/image.bin --key target/desk.pem
 
 The key and the image of the second example are those that the examples of ./frondicare pack --help make."""
+# The number for what the digest has to cover and doesn't.
+UNCOVERED = 30
+COVERED = {VERSION: "version", TIMESTAMP: "timestamp", FIRMWARE_TYPE: "firmware type"}
 # From 2000 to 2100.
 DATES = range(946684800, 4102444800)
 
@@ -80,6 +84,8 @@ def run(given):
         number, fields, signature = looked_at(program, path, key, folder)
     if fields:
         print(*described(fields, data, key), f"signature  {signature}", sep="\n")
+    if number == UNCOVERED:
+        print("uncovered ", ", ".join(COVERED[kind] for kind in uncovered(list(walk(data)))))
     passes = "passes" if key else "passes, if the signature is good"
     print(told(given.image, f"refused: {in_words(number)}" if number else passes))
     return 1 if number else 0

@@ -91,8 +91,8 @@
 #include <stdint.h>
 
 /* What changed in which version: CHANGELOG.md. The number is for #if: 1.2.3 is 10203. */
-#define FRONDICARE_VERSION "0.4.0"
-#define FRONDICARE_VERSION_NUMBER 400
+#define FRONDICARE_VERSION "0.5.0"
+#define FRONDICARE_VERSION_NUMBER 500
 
 #define FRONDICARE_HEADER_SIZE 256
 /* A slot's last four bytes, where its trailer is sound: to initialize an array of bytes. */
@@ -214,7 +214,8 @@ enum frondicare_number {
     FRONDICARE_ERR_CUSTOM_LENGTH = 26,
     FRONDICARE_ERR_CUSTOM_TAGS = 27,
     FRONDICARE_ERR_COUNTER = 28,
-    FRONDICARE_ERR_MOST_STEPS = 29
+    FRONDICARE_ERR_MOST_STEPS = 29,
+    FRONDICARE_ERR_UNCOVERED = 30
 };
 
 /* ---- The loader. The slots, BOOT and UPDATE, are sector_count + 1 sectors each, the last of them the trailer; SWAP is
@@ -229,10 +230,10 @@ uint32_t frondicare_check_geometry(size_t flash_len, size_t sector_size, size_t 
                                    size_t boot, size_t update, size_t swap);
 
 /* The next step of an update or of a return, or a boot, or a refusal. The flash is only read.
- * Boot: 0: no update or return was considered; 11 to 18: the image in UPDATE doesn't pass, as
+ * Boot: 0: no update or return was considered; 11 to 18, 30: the image in UPDATE doesn't pass, as
  * frondicare_verify says it; 19: its version is not greater than that of the image in BOOT.
- * Refused: 1 to 4 as above; 20: UPDATE's flags are ill-formed; 11 to 18: nothing is to be swapped, and
- * the image in BOOT doesn't pass. */
+ * Refused: 1 to 4 as above; 20: UPDATE's flags are ill-formed; 11 to 18, 30: nothing is to be swapped,
+ * and the image in BOOT doesn't pass. */
 frondicare_answer frondicare_next_step(const uint8_t *flash, size_t flash_len,
                                        size_t sector_size, size_t sector_count,
                                        size_t boot, size_t update, size_t swap,
@@ -300,17 +301,18 @@ uint32_t frondicare_add_step(frondicare_step_counts *counts, uint32_t op);
 /* The verdict on an image; bytes after its firmware don't count.
  * signature_ok is what the caller's signature checker said of the digest in the header. 0: passes.
  * 10: shorter than 256; 11: mark wrong; 12: size 0 or past the image; 13: a tag passes 256; 14, 15,
- * 16: a mandatory tag is missing, repeated, of wrong length; 17: digest differs; 18: signature_ok is
- * false. The first that applies is answered. */
+ * 16: a mandatory tag is missing, repeated, of wrong length; 30: version, timestamp or firmware type does
+ * not start before the digest tag, so that digest and signature don't cover it; 17: digest differs;
+ * 18: signature_ok is false. The first that applies is answered, in this order. */
 uint32_t frondicare_verify(const uint8_t *image, size_t image_len, bool signature_ok);
 
-/* The version in an image's header; the firmware is not looked at, but image_len must reach its end. 10 to 16 as
- * above. */
+/* The version in an image's header; the firmware is not looked at, but image_len must reach its end. 10 to 16 and 30
+ * as above. */
 frondicare_version frondicare_version_of(const uint8_t *image, size_t image_len);
 
 /* The first tag of a type in a header; of a longer slice, such as an image, the first 256 bytes are
- * read. A tag of length 0 is found too. The image is not verified. And where it passes, digest and signature cover no
- * tag behind the digest's: one may have been added there.
+ * read. A tag of length 0 is found too. The image is not verified. Where it passes, digest and signature cover
+ * version, timestamp and firmware type, but no tag behind the digest's: one may have been added there.
  * 10: shorter than 256; 13: a tag passes 256 before a match is met; 25: absent. */
 frondicare_tag frondicare_find_tag(const uint8_t *header, size_t header_len, uint16_t type);
 

@@ -34,6 +34,7 @@ static inline const char *frondicare_in_words(uint32_t number)
     case 27: return "the custom tags are ill-formed";
     case 28: return "a counter of steps has no room for 4096 more";
     case 29: return "more than 4096 steps are asked for";
+    case 30: return "the digest doesn't cover version, timestamp or firmware type";
     default: return "no such number";
     }
 }

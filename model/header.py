@@ -45,6 +45,12 @@ def view(header, kind):
     return header[at:at + length]
 
 
+def uncovered(tags):
+    """What the digest has to cover and doesn't, where each stands once."""
+    places = {found: at for found, at, _ in tags}
+    return [kind for kind in COVERED if places[kind] > places[DIGEST]]
+
+
 def check(image):
     """Numbers 10 to 16 and 30. Gives the firmware's size."""
     refuse(len(image) < 256, 10)
@@ -57,8 +63,7 @@ def check(image):
         refuse(len(lengths) == 0, 14)
         refuse(len(lengths) > 1, 15)
         refuse(lengths[0] != right, 16)
-    places = {found: at for found, at, _ in tags}
-    refuse(any(places[kind] > places[DIGEST] for kind in COVERED), 30)
+    refuse(uncovered(tags), 30)
     return size
 
 

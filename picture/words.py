@@ -17,7 +17,7 @@ SAFE = {SWAPPING: "UPDATE's is in SWAP", BACKUP: "BOOT's is in UPDATE", UPDATED:
 
 def refusal_text(number):
     """Of a board. The verdict that a loader ends with is BOOT's."""
-    slot = "BOOT: " if 11 <= number <= 18 else "UPDATE: " if number == 20 else ""
+    slot = "BOOT: " if 11 <= number <= 18 or number == 30 else "UPDATE: " if number == 20 else ""
     return f"refused: {slot}{in_words(number)}"
 
 

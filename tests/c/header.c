@@ -64,6 +64,22 @@ static void added_behind_the_digest(void)
     image[CUSTOM] ^= 1;
 }
 
+/* The version's tag moved behind the signature's, where it could be altered unseen. */
+static void version_behind_the_digest(void)
+{
+    enum { VERSION = 8, TAG = 8, END = 181 };
+    uint8_t kept[HEADER];
+    frondicare_version version;
+    memcpy(kept, image, HEADER);
+    memmove(image + VERSION, kept + VERSION + TAG, END - VERSION - TAG);
+    memcpy(image + END - TAG, kept + VERSION, TAG);
+    version = frondicare_version_of(image, sizeof image);
+    check(frondicare_find_tag(image, sizeof image, 0x0001).at == END - TAG + 4, "a version behind the signature");
+    check(frondicare_verify(image, sizeof image, true) == 30, "verify a version that the digest doesn't cover");
+    check(version.number == 30 && version.version == 0, "an uncovered version is none");
+    memcpy(image, kept, HEADER);
+}
+
 static void refused(void)
 {
     uint8_t buffer[HEADER + 1], untouched[HEADER + 1], digest[32];
@@ -151,6 +167,7 @@ int main(void)
     memset(signature, 0x44, sizeof signature);
     written_and_read();
     added_behind_the_digest();
+    version_behind_the_digest();
     refused();
     exchanged();
     refused_geometry();

@@ -15,7 +15,7 @@ from tests.chance import seeded
 from tests.command.simulator_inputs import board, edges, stored
 
 BOARDS = 1000
-VERDICTS = [f"REFUSE {number}" for number in range(11, 19)]
+VERDICTS = [f"REFUSE {number}" for number in (*range(11, 19), 30)]
 # The last lines that occur where no step was printed, and where some were.
 AT_ONCE = {"BOOT", "REFUSE 1", "REFUSE 2", "REFUSE 3", "REFUSE 4", "REFUSE 5", "REFUSE 20", *VERDICTS}
 LATER = {"BOOT", *VERDICTS}

@@ -41,7 +41,10 @@ def images(folder):
             "no mark": (flipped(good, 0), 11), "cut": (good[:-1], 12), "short": (good[:255], 10), "empty": (b"", 10),
             "overlong": (good[:11] + b"\x01" + good[12:], 13), "bare": (MARK + good[4:8] + bytes(2000), 14),
             "two versions": (good[:34] + tag(1, bytes(4)) + b"\xff" * 28 + good[70:], 15),
-            "short version": (good[:8] + tag(1, bytes(3)) + b"\xff" + good[16:], 16)}
+            "short version": (good[:8] + tag(1, bytes(3)) + b"\xff" + good[16:], 16),
+            "late version": (good[:8] + good[16:174] + good[8:16] + good[174:], 30),
+            "late": (good[:8] + good[34:174] + good[8:34] + good[174:], 30),
+            "late type": (good[:28] + good[34:106] + good[28:34] + good[106:], 30)}
 
 
 def check_verdict(caller, words, name, n):
@@ -50,7 +53,7 @@ def check_verdict(caller, words, name, n):
     passes = "passes" if "--key" in words else "passes, if the signature is good"
     assert last == f"{name}: {f'refused: {in_words(n)}' if n else passes}", (words, done)
     assert (done.returncode, done.stderr) == (int(n != 0), ""), done
-    assert bool(lines) == (n in (0, 17, 18)), done
+    assert bool(lines) == (n in (0, 17, 18, 30)), done
 
 
 def check_verdicts(caller):
@@ -62,7 +65,7 @@ def check_verdicts(caller):
             for words, n in (([name, "--key", ("desk.pem", "desk.pub")[i % 2]], number), ([name], number % 18)):
                 assert n == verdict(image, n != 18), name
                 seen[pool.submit(check_verdict, caller, words, name, n)] = n
-    assert {n for done, n in seen.items() if done.result() is None} == {0, *range(10, 19)}
+    assert {n for done, n in seen.items() if done.result() is None} == {0, *range(10, 19), 30}
 
 
 def check_words(caller):
@@ -79,6 +82,10 @@ def check_words(caller):
     assert foreign["signature"] == "not by desk.pub" and foreign["key"].endswith(", not that of desk.pub"), foreign
     assert said("disguised", "--key", "desk.pub")["key"].endswith(", that of desk.pub")
     assert said("dump")["firmware"].endswith("; the 100 bytes behind it do not count")
+    late = {"late": "version, timestamp, firmware type", "late version": "version", "late type": "firmware type"}
+    for name, names in late.items():
+        told = f"uncovered  {names}\n{name}: refused: {in_words(30)}\n"
+        assert caller.run(COMMAND, "verify", name).stdout == told, name
     for stamp in (0, 946684799, 2 ** 64 - 1):
         (caller.folder / "image").write_bytes(image_by(caller.folder, "desk", (2, stamp, 0)))
         assert said("image")["timestamp"] == str(stamp), stamp

@@ -1,5 +1,5 @@
 """Images for the program behind ./frondicare verify, and what it must print of them by the reference model."""
-from model.header import DIGEST, FIRMWARE_TYPE, HINT, SIGNATURE, TIMESTAMP, VERSION, check, verdict, view
+from model.header import COVERED, DIGEST, FIRMWARE_TYPE, HINT, SIGNATURE, TIMESTAMP, VERSION, check, verdict, view
 from model.refusals import Refused
 from model.writer import tag
 from tests.vectors.header_verdicts import CASES, D, H, PAD, S, T, V, Y, changed, image, longer, shorter, sized
@@ -13,7 +13,7 @@ def number(data, kind):
 
 
 def expected(data, signed):
-    """Standard output. A header that fails one of the checks 10 to 16 is not read."""
+    """Standard output. A header that fails one of the checks 10 to 16 and 30 is not read."""
     refused = verdict(data, signed)
     lines = [f"REFUSE {refused}" if refused else "PASS"]
     try:
@@ -44,13 +44,18 @@ def damaged(random, tags):
 
 
 def drawn(random):
-    """Tags in any order, with padding between, and a firmware that may be cut or longer than the size says."""
+    """Tags in any order, mostly with the digest behind what it has to cover, with padding between, and a firmware that
+    may be cut or longer than the size says."""
     timestamp = random.getrandbits(random.randint(1, 64)).to_bytes(8, "little")
     hints = random.choice(((), (32,), (random.randint(1, 40),)))
     tags = [tag(VERSION, random.randbytes(4)), tag(TIMESTAMP, timestamp), D, tag(SIGNATURE, random.randbytes(64)),
             tag(FIRMWARE_TYPE, random.randbytes(2)), *[tag(HINT, random.randbytes(length)) for length in hints],
             *[tag(CUSTOM, random.randbytes(random.randint(0, 20))) for _ in range(random.choice((0, 0, 1, 2)))]]
     random.shuffle(tags)
+    if random.random() < 0.8:
+        tags.remove(D)
+        last = max(i for i, each in enumerate(tags) if int.from_bytes(each[:2], "little") in COVERED)
+        tags.insert(random.randint(last + 1, len(tags)), D)
     tags = damaged(random, tags) if random.random() < 0.3 else tags
     firmware = random.randbytes(random.randint(1, random.choice((1, 64, 3000, 3000, 30_000))))
     data = image(*[part for each in tags for part in (PAD * random.choice((0, 0, 0, 1, 5)), each)], firmware=firmware)

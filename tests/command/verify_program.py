@@ -21,7 +21,7 @@ CRATE = ROOT / "crates/verify"
 DRAWN = 500
 ANSWERS = {"yes": True, "no": False}
 # What occurs: each verdict; and of the headers that are read, what they hold.
-KINDS = {"PASS", *[f"REFUSE {number}" for number in range(10, 19)], "hint", "no hint", "hint of another length",
+KINDS = {"PASS", *[f"REFUSE {number}" for number in (*range(10, 19), 30)], "hint", "no hint", "hint of another length",
          "timestamp of 64 bits", "custom tags"}
 
 

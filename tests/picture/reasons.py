@@ -5,10 +5,11 @@ from picture.explain import explained
 from tests.picture.check import check
 from tests.picture.ends import COMES_BACK
 from tests.vectors.loader_case import B10, BOOT_ONLY, BOTH, NEITHER, U30, U70, UPDATE_ONLY, G, filled, sound
-from tests.vectors.loader_images import ONE, TWO
+from tests.vectors.loader_images import BROKEN, ONE, TWO
 
 TORN = ONE[:-1] + b"\x00"
 NO, DIGEST, VERSION = "the signature checker says no (18)", "the digest differs (17)", "the version is not greater (19)"
+UNCOVERED = "the digest doesn't cover version, timestamp or firmware type (30)"
 # The flash, the checker's answers, and what is said. A swap exchanges the answers, so that the one for UPDATE goes on
 # with its image.
 BOARDS = [
@@ -26,6 +27,9 @@ BOARDS = [
     (filled(TORN, ONE, U70), BOTH, f"refused: BOOT: {DIGEST}", f"UPDATE passed over: {VERSION}"),
     (filled(ONE, TWO, U70), NEITHER, f"refused: BOOT: {NO}", f"UPDATE passed over: {NO}"),
     (filled(ONE, TWO, U70, (1530, b"\x3f")), BOTH, "refused: UPDATE: the flags are ill-formed (20)"),
+    (filled(ONE, BROKEN[30], U70), BOTH, "boots version 1", f"UPDATE passed over: {UNCOVERED}"),
+    (filled(BROKEN[30], ONE, U70), BOTH, "boots version 1 on trial", f"nothing to go back to in UPDATE: {UNCOVERED}"),
+    (filled(BROKEN[30], TWO), BOTH, f"refused: BOOT: {UNCOVERED}"),
 ]
 
 

@@ -1,5 +1,5 @@
--- What the digest has to cover, checked in one walk: of the types that it has to cover, those tags do not start before the first digest
--- tag that the walk meets behind it.
+-- What the digest has to cover, checked in one walk: a tag of these types does not start before the first digest tag where the walk meets
+-- it behind that one.
 -- Assumes nothing.
 use Prim.Native.Nat.{ℕ, _+_, _≤_}
 use mathlib.Core.Bool.{Bool, true, false, cond, not, _||_}
@@ -9,10 +9,10 @@ use native.Mathlib.Omega.{arith}
 use lib.Dec.{ltb, eqb}
 use borrow.Author.Tests.{eqb-true, eq-eqb, lt-ltb, le-ltb}
 use Rattle.compare.proofs.Tests.{by-test, never}
-use Rattle.header.specs.Checks.{firstRefusal, coveredCheck, digestTag, tagsCheck, coverageCheck}
+use Rattle.header.specs.Checks.{firstRefusal, Mandatory, coveredCheck, digestTag, tagsCheck, coverageCheck}
 use Rattle.header.specs.Lookup.{ofKind}
 use Rattle.header.specs.Seen.{numberAfter, mustBeCovered, uncoveredAfter}
-use Rattle.header.specs.Types.{versionType, timestampType, digestType, firmwareType}
+use Rattle.header.specs.Types.{versionType, timestampType, firmwareType}
 use Rattle.header.specs.declared.tags.Tag.{Tag}
 use Rattle.header.proofs.Order.{Ordered, first-is}
 use Rattle.header.proofs.Refusals.{Once, all-once}
@@ -43,48 +43,6 @@ or-false false b e = e
 abbrev hasType : ℕ → Tag → Bool
 hasType k t = eqb (t .kind) k
 
-abbrev must : Tag → Bool
-must t = mustBeCovered (t .kind)
-
--- the tags behind the first digest tag
-abbrev behind : List Tag → List Tag
-behind [] = []
-behind (t ∷ ts) = cond (eqb (t .kind) digestType) ts (behind ts)
-
--- whether a tag of type k is one of them
-abbrev late : ℕ → List Tag → Bool
-late k ts = some (hasType k) (behind ts)
-
--- whether something is uncovered after some tags; d is the digest's number before them
-abbrev pub uncoveredAll : ℕ → Bool → List Tag → Bool
-uncoveredAll d u [] = u
-uncoveredAll d u (t ∷ ts) = uncoveredAll (numberAfter digestTag d t) (uncoveredAfter d u t) ts
-
--- behind a digest tag each tag counts
-from-digest : (d : ℕ) (u : Bool) (ts : List Tag) → eqb d 14 ≡ false → uncoveredAll d u ts ≡ (u || some must ts)
-from-digest d true [] n = refl
-from-digest d false [] n = refl
-from-digest d u (t ∷ ts) n =
-    rw n
-    (from-digest _ _ ts (by-test (λ (r : ℕ). eqb r 14 ≡ false) (eqb (t .kind) digestType) (λ b. refl) (λ b. n))
-    ∙ or-assoc u (must t) (some must ts))
-  where
-    or-assoc : (a b c : Bool) → (a || b || c) ≡ (a || (b || c))
-    or-assoc true b c = refl
-    or-assoc false b c = refl
-
--- before it none does
-from-start : (ts : List Tag) → uncoveredAll 14 false ts ≡ some must (behind ts)
-from-start [] = refl
-from-start (t ∷ ts) = go (eqb (t .kind) digestType) (from-start ts)
-  where
-    go :
-        (b : Bool) →
-        uncoveredAll 14 false ts ≡ some must (behind ts) →
-        uncoveredAll (cond b (cond (eqb (t .len) 32) 0 16) 14) false ts ≡ some must (cond b ts (behind ts))
-    go true ih = from-digest _ false ts (by-test (λ (r : ℕ). eqb r 14 ≡ false) (eqb (t .len) 32) (λ b. refl) (λ b. refl))
-    go false ih = ih
-
 -- whether there is a tag of a type, by the list of them
 has : (k : ℕ) (ts us : List Tag) → ofKind k ts ≡ us → some (hasType k) ts ≡ notEmpty us
 has k [] us e = rw (← e)
@@ -94,59 +52,103 @@ has k (t ∷ ts) us e = rw (← e) (go (eqb (t .kind) k) (has k ts (ofKind k ts)
     go true ih = refl
     go false ih = ih
 
--- where there is none, none stands behind
-none-behind : (k : ℕ) (ts : List Tag) → some (hasType k) ts ≡ false → late k ts ≡ false
-none-behind k [] e = refl
-none-behind k (t ∷ ts) e =
-    by-test (λ (us : List Tag). some (hasType k) us ≡ false) (eqb (t .kind) digestType)
-    (λ b. or-false (hasType k t) (some (hasType k) ts) e) (λ b. none-behind k ts (or-false (hasType k t) (some (hasType k) ts) e))
+abbrev must : Tag → Bool
+must t = mustBeCovered (t .kind)
 
--- the only tag of another type stands behind the only digest tag where it does not start before it
-module _ (k : ℕ) (other : eqb digestType k ≡ false) where
-  stands-behind :
-      (ts : List Tag) →
-      Ordered ts →
-      {t d : Tag} →
-      ofKind k ts ≡ t ∷ [] →
-      ofKind digestType ts ≡ d ∷ [] →
-      late k ts ≡ not (ltb (t .at) (d .at))
-  stands-behind [] o e f = absurd (let z : _≡_ {A = ℕ} 0 1 = cc in omega arith)
-  stands-behind (u ∷ ts) o {t} {d} e f = go (eqb (u .kind) digestType) refl (eqb (u .kind) k) refl e f (stands-behind ts (o .1))
+-- what is to stand before the tag of a mandatory type m: for R-2 the digest's
+module _ (m : Mandatory) where
+  -- the tags behind the first one of that type
+  abbrev behind : List Tag → List Tag
+  behind [] = []
+  behind (t ∷ ts) = cond (eqb (t .kind) (m .kind)) ts (behind ts)
+
+  -- whether a tag of type k is one of them
+  abbrev late : ℕ → List Tag → Bool
+  late k ts = some (hasType k) (behind ts)
+
+  -- whether something is uncovered after some tags; d is the number of type m before them
+  abbrev pub uncoveredAll : ℕ → Bool → List Tag → Bool
+  uncoveredAll d u [] = u
+  uncoveredAll d u (t ∷ ts) = uncoveredAll (numberAfter m d t) (uncoveredAfter d u t) ts
+
+  -- behind a tag of type m each tag counts
+  from-first : (d : ℕ) (u : Bool) (ts : List Tag) → eqb d 14 ≡ false → uncoveredAll d u ts ≡ (u || some must ts)
+  from-first d true [] n = refl
+  from-first d false [] n = refl
+  from-first d u (t ∷ ts) n =
+      rw n
+      (from-first _ _ ts (by-test (λ (r : ℕ). eqb r 14 ≡ false) (eqb (t .kind) (m .kind)) (λ b. refl) (λ b. n))
+      ∙ or-assoc u (must t) (some must ts))
+    where
+      or-assoc : (a b c : Bool) → (a || b || c) ≡ (a || (b || c))
+      or-assoc true b c = refl
+      or-assoc false b c = refl
+
+  -- before it none does
+  from-start : (ts : List Tag) → uncoveredAll 14 false ts ≡ some must (behind ts)
+  from-start [] = refl
+  from-start (t ∷ ts) = go (eqb (t .kind) (m .kind)) (from-start ts)
     where
       go :
           (b : Bool) →
-          eqb (u .kind) digestType ≡ b →
-          (c : Bool) →
-          eqb (u .kind) k ≡ c →
-          cond c (u ∷ ofKind k ts) (ofKind k ts) ≡ t ∷ [] →
-          cond b (u ∷ ofKind digestType ts) (ofKind digestType ts) ≡ d ∷ [] →
-          (ofKind k ts ≡ t ∷ [] → ofKind digestType ts ≡ d ∷ [] → late k ts ≡ not (ltb (t .at) (d .at))) →
-          some (hasType k) (cond b ts (behind ts)) ≡ not (ltb (t .at) (d .at))
-      go true p true q e f ih = never (sym (eq-eqb digestType k (sym (eqb-true _ _ p) ∙ eqb-true _ _ q)) ∙ other)
-      go true p false q e f ih =
-          let same : u ≡ d = cc in
-          let l : u .at + u .len + 4 ≤ t .at = o .0 t (first-is k ts e) in
-          rw (has k ts _ e, ← same, le-ltb (t .at) (u .at) (omega arith))
-      go false p true q e f ih =
-          let same : u ≡ t = cc in
-          let empty : ofKind k ts ≡ [] = cc in
-          let l : u .at + u .len + 4 ≤ d .at = o .0 d (first-is digestType ts f) in
-          rw (none-behind k ts (has k ts _ empty), ← same, lt-ltb (u .at) (d .at) (omega arith))
-      go false p false q e f ih = ih e f
+          uncoveredAll 14 false ts ≡ some must (behind ts) →
+          uncoveredAll (cond b (cond (eqb (t .len) (m .len)) 0 16) 14) false ts ≡ some must (cond b ts (behind ts))
+      go true ih = from-first _ false ts (by-test (λ (r : ℕ). eqb r 14 ≡ false) (eqb (t .len) (m .len)) (λ b. refl) (λ b. refl))
+      go false ih = ih
 
-  -- so its check can be told from what stands behind
-  told-behind :
-      (ts : List Tag) →
-      Ordered ts →
-      {m n : ℕ} →
-      Once m (ofKind k ts) →
-      Once n (ofKind digestType ts) →
-      coveredCheck (ofKind k ts) (ofKind digestType ts) ≡ cond (late k ts) 30 0
-  told-behind ts o t d = rw (stands-behind ts o (t .is) (d .is), t .is, d .is) (go (ltb (t .tag .at) (d .tag .at)))
-    where
-      go : (b : Bool) → _≡_ {A = ℕ} (cond b 0 30) (cond (not b) 30 0)
-      go true = refl
-      go false = refl
+  -- where there is no tag of a type, none stands behind
+  none-behind : (k : ℕ) (ts : List Tag) → some (hasType k) ts ≡ false → late k ts ≡ false
+  none-behind k [] e = refl
+  none-behind k (t ∷ ts) e =
+      by-test (λ (us : List Tag). some (hasType k) us ≡ false) (eqb (t .kind) (m .kind))
+      (λ b. or-false (hasType k t) (some (hasType k) ts) e) (λ b. none-behind k ts (or-false (hasType k t) (some (hasType k) ts) e))
+
+  -- the only tag of another type stands behind the only one of type m where it does not start before it
+  module _ (k : ℕ) (other : eqb (m .kind) k ≡ false) where
+    stands-behind :
+        (ts : List Tag) →
+        Ordered ts →
+        {t d : Tag} →
+        ofKind k ts ≡ t ∷ [] →
+        ofKind (m .kind) ts ≡ d ∷ [] →
+        late k ts ≡ not (ltb (t .at) (d .at))
+    stands-behind [] o e f = absurd (let z : _≡_ {A = ℕ} 0 1 = cc in omega arith)
+    stands-behind (u ∷ ts) o {t} {d} e f = go (eqb (u .kind) (m .kind)) refl (eqb (u .kind) k) refl e f (stands-behind ts (o .1))
+      where
+        go :
+            (b : Bool) →
+            eqb (u .kind) (m .kind) ≡ b →
+            (c : Bool) →
+            eqb (u .kind) k ≡ c →
+            cond c (u ∷ ofKind k ts) (ofKind k ts) ≡ t ∷ [] →
+            cond b (u ∷ ofKind (m .kind) ts) (ofKind (m .kind) ts) ≡ d ∷ [] →
+            (ofKind k ts ≡ t ∷ [] → ofKind (m .kind) ts ≡ d ∷ [] → late k ts ≡ not (ltb (t .at) (d .at))) →
+            some (hasType k) (cond b ts (behind ts)) ≡ not (ltb (t .at) (d .at))
+        go true p true q e f ih = never (sym (eq-eqb (m .kind) k (sym (eqb-true _ _ p) ∙ eqb-true _ _ q)) ∙ other)
+        go true p false q e f ih =
+            let same : u ≡ d = cc in
+            let l : u .at + u .len + 4 ≤ t .at = o .0 t (first-is k ts e) in
+            rw (has k ts _ e, ← same, le-ltb (t .at) (u .at) (omega arith))
+        go false p true q e f ih =
+            let same : u ≡ t = cc in
+            let empty : ofKind k ts ≡ [] = cc in
+            let l : u .at + u .len + 4 ≤ d .at = o .0 d (first-is (m .kind) ts f) in
+            rw (none-behind k ts (has k ts _ empty), ← same, lt-ltb (u .at) (d .at) (omega arith))
+        go false p false q e f ih = ih e f
+
+    -- so its check can be told from what stands behind
+    told-behind :
+        (ts : List Tag) →
+        Ordered ts →
+        {i j : ℕ} →
+        Once i (ofKind k ts) →
+        Once j (ofKind (m .kind) ts) →
+        coveredCheck (ofKind k ts) (ofKind (m .kind) ts) ≡ cond (late k ts) 30 0
+    told-behind ts o t d = rw (stands-behind ts o (t .is) (d .is), t .is, d .is) (go (ltb (t .tag .at) (d .tag .at)))
+      where
+        go : (b : Bool) → _≡_ {A = ℕ} (cond b 0 30) (cond (not b) 30 0)
+        go true = refl
+        go false = refl
 
 first-of-three : (a b c : Bool) → cond (a || b || c) 30 0 ≡ firstRefusal (cond a 30 0 ∷ cond b 30 0 ∷ cond c 30 0 ∷ [])
 first-of-three true b c = refl
@@ -155,15 +157,17 @@ first-of-three false false true = refl
 first-of-three false false false = refl
 
 -- where each mandatory type has its one tag, this is what the check says
-pub all-covered : (ts : List Tag) → Ordered ts → tagsCheck ts ≡ 0 → cond (uncoveredAll 14 false ts) 30 0 ≡ coverageCheck ts
+pub all-covered : (ts : List Tag) → Ordered ts → tagsCheck ts ≡ 0 → cond (uncoveredAll digestTag 14 false ts) 30 0 ≡ coverageCheck ts
 unfolding coverageCheck
 all-covered ts o e =
+    let m = digestTag in
     let each = all-once ts e in
+    let only = each .digest in
     rw (
-      from-start ts,
-      some-or (λ (t : Tag). hasType versionType t || hasType timestampType t) (hasType firmwareType) (behind ts),
-      some-or (hasType versionType) (hasType timestampType) (behind ts),
-      told-behind versionType refl ts o (each .version) (each .digest),
-      told-behind timestampType refl ts o (each .timestamp) (each .digest),
-      told-behind firmwareType refl ts o (each .«firmware-type») (each .digest),
-    ) (first-of-three (late versionType ts) (late timestampType ts) (late firmwareType ts))
+      from-start m ts,
+      some-or (λ (t : Tag). hasType versionType t || hasType timestampType t) (hasType firmwareType) (behind m ts),
+      some-or (hasType versionType) (hasType timestampType) (behind m ts),
+      told-behind m versionType refl ts o (each .version) only,
+      told-behind m timestampType refl ts o (each .timestamp) only,
+      told-behind m firmwareType refl ts o (each .«firmware-type») only,
+    ) (first-of-three (late m versionType ts) (late m timestampType ts) (late m firmwareType ts))

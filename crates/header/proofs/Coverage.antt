@@ -10,7 +10,7 @@ use lib.ListN.{length, take, length-take}
 use lib.Seq.{length-take-le, take-take}
 use borrow.Author.Tests.{ltb-true, lt-ltb}
 use Rattle.compare.proofs.Tests.{by-test}
-use Rattle.header.specs.Checks.{coveredTypes, coveredCheck, coverageCheck}
+use Rattle.header.specs.Checks.{coveredTypes, coveredCheck, coverageCheck, headerCheck, versionOf}
 use Rattle.header.specs.Coverage.{Covered, CoverageChecked}
 use Rattle.header.specs.Lookup.{lookup, viewOf, beforeTag, coveredOf, ofKind}
 use Rattle.header.specs.Types.{versionType, timestampType, digestType, firmwareType}
@@ -114,3 +114,12 @@ covered-same i j k e c d =
     lookup-same i j (t .at) same k (omega arith) (looked-up j k (d .found) .long) (c .found) in
     let tag : d .tag ≡ t = cc in
     c .shown ∙ rw (e, ← tag) (sym (d .shown))
+
+pub version-same :
+    (i j : List ℕ) →
+    headerCheck i ≡ 0 →
+    headerCheck j ≡ 0 →
+    viewOf i versionType ≡ viewOf j versionType →
+    versionOf i ≡ versionOf j
+unfolding versionOf
+version-same i j p q e = rw (p, q, e)

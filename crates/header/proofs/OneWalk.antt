@@ -78,7 +78,7 @@ each : (s : Seen) (ts : List Tag) →
       digest = numbersAfter digestTag (s .digest) ts;
       signature = numbersAfter signatureTag (s .signature) ts;
       «firmware_type» = numbersAfter firmwareTag (s .«firmware_type») ts;
-      uncovered = uncoveredAll (s .digest) (s .uncovered) ts;
+      uncovered = uncoveredAll digestTag (s .digest) (s .uncovered) ts;
     }
 each s [] = refl
 each s (t ∷ ts) = each (seenAfter s t) ts

@@ -70,12 +70,12 @@ mandatory = versionTag ∷ timestampTag ∷ digestTag ∷ signatureTag ∷ firmw
 unfoldable pub tagsCheck : List Tag → ℕ
 tagsCheck ts = firstRefusal (map (λ (m : Mandatory). mandatoryCheck (m .len) (ofKind (m .kind) ts)) mandatory)
 
--- R-2: the mandatory types whose tag the digest has to cover
+-- the mandatory types whose tag the digest has to cover
 abbrev pub coveredTypes : List ℕ
 coveredTypes = versionType ∷ timestampType ∷ firmwareType ∷ []
 
--- Of such a type's tags and the digest tags: 30 where the first does not start before the first digest tag. After check 16 each stands
--- exactly once; where one is missing, 14 has said so.
+-- Of such a type's tags and the digest tags: 30 where the tag does not start before the first digest tag, by the places of their contents,
+-- four bytes on. After check 16 each stands exactly once; where one is missing, 14 has said so.
 abbrev pub coveredCheck : List Tag → List Tag → ℕ
 coveredCheck [] ds = 0
 coveredCheck (t ∷ ts) [] = 0

@@ -10,11 +10,11 @@ use lib.Seq.{length-take-le, take-append-le, take-at, drop-at}
 use Rattle.compare.specs.Compare.{same}
 use Rattle.compare.proofs.Sameness.{same-equal}
 use Rattle.compare.proofs.Tests.{by-test}
-use Rattle.header.specs.Checks.{sizeOf, headerCheck, versionOf}
+use Rattle.header.specs.Checks.{sizeOf, headerCheck}
 use Rattle.header.specs.Coverage.{AllCovered}
 use Rattle.header.specs.Lookup.{viewOf, coveredOf}
 use Rattle.header.specs.Types.{versionType, timestampType, digestType, firmwareType}
-use Rattle.header.proofs.Coverage.{coverage-checked, covered-start, covered-same}
+use Rattle.header.proofs.Coverage.{coverage-checked, covered-start, covered-same, version-same}
 use Rattle.header.proofs.Lookups.{looked-up}
 use Rattle.header.proofs.Prefix.{number-same}
 use Rattle.header.proofs.Refusals.{zero-at, firmware-fits}
@@ -50,7 +50,7 @@ size-in : (i : List ℕ) → 8 ≤ length (coveredOf i) → take 8 i ≡ take 8 
 size-in i l = sym (covered-start i 8 l) ∙ sym (take-append-le 8 (coveredOf i) (firmwareOf i) l)
 
 pub digest-tells : DigestTells
-unfolding digestOf versionOf
+unfolding digestOf
 digest-tells i j a b e f d n =
     let p = passes i a e in
     let q = passes j b f in
@@ -65,7 +65,7 @@ digest-tells i j a b e f d n =
     record {
       covered = covered;
       firmware = sym (drop-at (coveredOf i) (firmwareOf i) _ refl) ∙ rw (m, lengths) (drop-at (coveredOf j) (firmwareOf j) _ refl);
-      version = rw (p .header, q .header, version);
+      version = version-same i j (p .header) (q .header) version;
       timestamp = covered-same i j timestampType covered (p .covered .timestamp) (q .covered .timestamp);
       «firmware-type» = covered-same i j firmwareType covered (p .covered .«firmware-type») (q .covered .«firmware-type»);
     }

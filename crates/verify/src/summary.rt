@@ -12,7 +12,7 @@ pub(crate) struct Numbers {
     pub(crate) size: u32,
 }
 
-// The number of the check 10 to 16 that the header fails; or the verdict, and what the header holds.
+// The number of the check 10 to 16 or 30 that the header fails; or the verdict, and what the header holds.
 pub(crate) enum Summary {
     Refused(u32),
     Read(u32, Numbers),

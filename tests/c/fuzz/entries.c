@@ -2,8 +2,8 @@
 
 /* Document 01's numbers, and what answers hold beside them, in the words of answers.c. */
 static const char *const hashed[] = { "0", "12", NULL };
-static const char *const verified[] = { "0", "10", "11", "12", "13", "14", "15", "16", "17", "18", NULL };
-static const char *const versions[] = { "0", "10", "11", "12", "13", "14", "15", "16", NULL };
+static const char *const verified[] = { "0", "10", "11", "12", "13", "14", "15", "16", "17", "18", "30", NULL };
+static const char *const versions[] = { "0", "10", "11", "12", "13", "14", "15", "16", "30", NULL };
 static const char *const found[] = { "0", "10", "13", "25", NULL };
 static const char *const to_sign[] = { "0", "12", "26", "27", NULL };
 static const char *const written[] = { "0", "10", "12", "26", "27", NULL };
@@ -20,7 +20,8 @@ static const char *const confirmed[] = { "byte", "finished", "1", "2", "3", "4",
 
 #define DECIDED \
     "erase", "copy", "byte", "mark", "last byte", "boot 0", "boot 11", "boot 12", "boot 13", "boot 14", "boot 15", \
-    "boot 16", "boot 17", "boot 18", "boot 19", "1", "2", "3", "4", "11", "12", "13", "14", "15", "16", "17", "18", "20"
+    "boot 16", "boot 17", "boot 18", "boot 19", "boot 30", "1", "2", "3", "4", "11", "12", "13", "14", "15", "16", \
+    "17", "18", "20", "30"
 
 static const char *const decided[] = { DECIDED, NULL };
 static const char *const run[] = { DECIDED, "28", "29", NULL };

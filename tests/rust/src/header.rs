@@ -1,4 +1,5 @@
-//! The header of document 01, read plainly: what the library is compared with, and what its speed is measured against.
+//! The header of document 01, with R-2 of document 02, read plainly: what the library is compared with, and what its
+//! speed is measured against.
 //! An `Err` holds a number of the paper's table "Numbers given back".
 use crate::sha256;
 
@@ -69,7 +70,7 @@ pub fn view(header: &[u8], kind: u16) -> &[u8] {
     find_tag(header, kind).map_or(&[], |tag| &header[tag.at..][..tag.len])
 }
 
-/// Numbers 13 to 16. Gives the contents' places, in MANDATORY's order.
+/// Numbers 13 to 16, and 30. Gives the contents' places, in MANDATORY's order.
 fn mandatory(header: &[u8; SIZE]) -> Result<[usize; 5], u32> {
     let mut found: [Option<Tag>; 5] = [None; 5];
     let mut repeated = [false; 5];
@@ -91,10 +92,14 @@ fn mandatory(header: &[u8; SIZE]) -> Result<[usize; 5], u32> {
         }
         places[i] = tag.at;
     }
+    let [version, timestamp, digest, _, firmware_type] = places;
+    if digest < version.max(timestamp).max(firmware_type) {
+        return Err(30);
+    }
     Ok(places)
 }
 
-/// An image that passed checks 10 to 16, with the contents' places.
+/// An image that passed checks 10 to 16 and 30, with the contents' places.
 struct Checked<'a> {
     header: &'a [u8; SIZE],
     firmware: &'a [u8],
@@ -113,7 +118,7 @@ fn check(image: &[u8]) -> Result<Checked<'_>, u32> {
     Ok(Checked { header, firmware: &rest[..size], places: mandatory(header)? })
 }
 
-/// The version of an image that passes checks 10 to 16.
+/// The version of an image that passes checks 10 to 16 and 30.
 pub fn version(image: &[u8]) -> Result<u32, u32> {
     let Checked { header, places: [at, ..], .. } = check(image)?;
     Ok(u32::from_le_bytes([header[at], header[at + 1], header[at + 2], header[at + 3]]))

@@ -1,6 +1,6 @@
 //! Random images: as the writer makes them, laid out tag by tag, and noise; some of them damaged.
 use crate::damage;
-use crate::header::{DIGEST, HINT, MANDATORY, MARK, SIZE};
+use crate::header::{DIGEST, FIRMWARE_TYPE, HINT, MANDATORY, MARK, SIZE, TIMESTAMP, VERSION};
 use crate::random::Random;
 use crate::sha256;
 use crate::writer::{self, Fields, Parts};
@@ -63,8 +63,17 @@ pub fn written(random: &mut Random) -> Vec<u8> {
     image
 }
 
-/// Types and lengths: the mandatory ones in any order, others between them, at times one missing, repeated or of wrong
-/// length.
+/// Puts the digest where the last tag stands that it has to cover; that one comes to the digest's place.
+fn cover(list: &mut [(u16, usize)]) {
+    let digest = list.iter().position(|tag| tag.0 == DIGEST);
+    let last = list.iter().rposition(|tag| [VERSION, TIMESTAMP, FIRMWARE_TYPE].contains(&tag.0));
+    if let (Some(digest), Some(last)) = (digest, last) {
+        list.swap(digest, last.max(digest));
+    }
+}
+
+/// Types and lengths: the mandatory ones in any order, mostly all covered; others between them; at times one missing,
+/// repeated or of wrong length.
 fn tag_list(random: &mut Random) -> Vec<(u16, usize)> {
     let mut list = MANDATORY.to_vec();
     for _ in 0..random.up_to(2) {
@@ -82,6 +91,9 @@ fn tag_list(random: &mut Random) -> Vec<(u16, usize)> {
     }
     for i in (1..list.len()).rev() {
         list.swap(i, random.up_to(i));
+    }
+    if random.percent(75) {
+        cover(&mut list);
     }
     list
 }

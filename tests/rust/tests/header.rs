@@ -38,7 +38,7 @@ fn verdicts() {
         let image = images::any(&mut random);
         seen.add(same_verdict(&image, random.percent(90)));
     }
-    seen.each(500, &[0, 10, 11, 12, 13, 14, 15, 16, 17, 18]);
+    seen.each(500, &[0, 10, 11, 12, 13, 14, 15, 16, 17, 18, 30]);
 }
 
 /// Every named type, the special ones, a random one, and the one at 34, where a written header has its first custom tag.
@@ -118,20 +118,22 @@ fn every_byte_near_the_end() {
 }
 
 /// The greatest size, all zeros. Header and firmware pass 4,294,967,295 bytes together, and still have their digest.
-/// It is that of coreutils: { printf 'WOLF\377\377\377\377'; head -c 4294967295 /dev/zero; } | sha256sum
+/// It is that of coreutils, with the mark, the size and three tags of zeros before the firmware:
+/// { printf 'WOLF\377\377\377\377\1\0\4\0\0\0\0\0\2\0\10\0\0\0\0\0\0\0\0\0\60\0\2\0\0\0';
+/// head -c 4294967295 /dev/zero; } | sha256sum
 #[test]
 fn greatest_size() {
-    const PRINTED: &str = "616b3673c3897f6bc1d3ad6c9d63874d119f7247f2d4dcc601ce97884df17780";
+    const PRINTED: &str = "200c99a26130cb3db6cb9a265c417a857be6bc8875f4f9a9c43c23d6e46300a9";
+    const DIGEST_AT: usize = 38;
     let mut image = vec![0u8; SIZE + 0xffff_ffff];
     image[..8].copy_from_slice(b"WOLF\xff\xff\xff\xff");
     let mut place = 8;
-    // The digest tag comes first, so that the eight bytes before it are all that is hashed of the header.
-    for (kind, len) in [(DIGEST, 32), (VERSION, 4), (TIMESTAMP, 8), (SIGNATURE, 64), (FIRMWARE_TYPE, 2)] {
+    for (kind, len) in [(VERSION, 4), (TIMESTAMP, 8), (FIRMWARE_TYPE, 2), (DIGEST, 32), (SIGNATURE, 64)] {
         image[place..place + 2].copy_from_slice(&kind.to_le_bytes());
         image[place + 2] = len;
         place += 4 + len as usize;
     }
-    for (i, byte) in image[12..44].iter_mut().enumerate() {
+    for (i, byte) in image[DIGEST_AT..DIGEST_AT + 32].iter_mut().enumerate() {
         *byte = u8::from_str_radix(&PRINTED[2 * i..2 * i + 2], 16).unwrap();
     }
     assert_eq!(frondicare::verify(&image[..SIZE + 0xffff_fffe], true), 12);

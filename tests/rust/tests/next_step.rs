@@ -7,8 +7,9 @@ use frondicare_tests::guarded::Guarded;
 use frondicare_tests::random::Random;
 use frondicare_tests::seen::Seen;
 
-const REFUSALS: &str = "REFUSE 11, REFUSE 12, REFUSE 13, REFUSE 14, REFUSE 15, REFUSE 16, REFUSE 17, REFUSE 18";
-const REASONS: &str = "BOOT 11, BOOT 12, BOOT 13, BOOT 14, BOOT 15, BOOT 16, BOOT 17, BOOT 18";
+const REFUSALS: &str =
+    "REFUSE 11, REFUSE 12, REFUSE 13, REFUSE 14, REFUSE 15, REFUSE 16, REFUSE 17, REFUSE 18, REFUSE 30";
+const REASONS: &str = "BOOT 11, BOOT 12, BOOT 13, BOOT 14, BOOT 15, BOOT 16, BOOT 17, BOOT 18, BOOT 30";
 
 /// Each situation by its decision, and all that it is answered with.
 const ANSWERS: [(&str, &str); 18] = [

@@ -41,10 +41,11 @@ fn against(board: &Board, number: u32, counts: &Counts) -> String {
 }
 
 const AT_ONCE: &str =
-    "REFUSE 11, REFUSE 12, REFUSE 13, REFUSE 14, REFUSE 15, REFUSE 16, REFUSE 17, REFUSE 18, REFUSE 20, \
-    BOOT 0, BOOT 11, BOOT 12, BOOT 13, BOOT 14, BOOT 15, BOOT 16, BOOT 17, BOOT 18, BOOT 19, E, C, B, M, LAST B";
-const LATER: &str = "REFUSE 11, REFUSE 12, REFUSE 13, REFUSE 14, REFUSE 15, REFUSE 16, REFUSE 17, REFUSE 18, BOOT 0, \
+    "REFUSE 11, REFUSE 12, REFUSE 13, REFUSE 14, REFUSE 15, REFUSE 16, REFUSE 17, REFUSE 18, REFUSE 20, REFUSE 30, \
+    BOOT 0, BOOT 11, BOOT 12, BOOT 13, BOOT 14, BOOT 15, BOOT 16, BOOT 17, BOOT 18, BOOT 19, BOOT 30, \
     E, C, B, M, LAST B";
+const LATER: &str = "REFUSE 11, REFUSE 12, REFUSE 13, REFUSE 14, REFUSE 15, REFUSE 16, REFUSE 17, REFUSE 18, \
+    REFUSE 30, BOOT 0, E, C, B, M, LAST B";
 const REFUSED: &str = "geometry; 29; 28; geometry, 29; geometry, 28; 29, 28; geometry, 29, 28";
 
 /// Any board, and what a second run makes of it. A refusal before the first step changes nothing.

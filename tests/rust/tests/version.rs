@@ -23,7 +23,7 @@ fn versions() {
     for _ in 0..30_000 {
         seen.add(same_version(&images::any(&mut random)).number);
     }
-    seen.each(250, &[0, 10, 11, 12, 13, 14, 15, 16]);
+    seen.each(250, &[0, 10, 11, 12, 13, 14, 15, 16, 30]);
 }
 
 /// Every length of slice: 10, then 12 until the firmware is whole.

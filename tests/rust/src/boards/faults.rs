@@ -1,12 +1,22 @@
 //! One fault with a given number, in an image that `images::with` made.
-use crate::header::{find_tag, DIGEST, HINT, MANDATORY, SIZE, TIMESTAMP};
+use crate::header::{find_tag, DIGEST, FIRMWARE_TYPE, HINT, MANDATORY, SIGNATURE, SIZE, TIMESTAMP, VERSION};
 use crate::random::Random;
 
 fn content_place(image: &[u8], kind: u16) -> usize {
     find_tag(image, kind).expect("the writer wrote it").at
 }
 
-/// Makes the image fail with a number from 11 to 17. What follows the firmware belongs to the image too.
+pub const NUMBERS: [u32; 8] = [11, 12, 13, 14, 15, 16, 17, 30];
+
+/// Moves a tag that the digest has to cover behind the digest's, or behind the signature's.
+fn uncover(random: &mut Random, image: &mut [u8]) {
+    let (kind, len) = random.one_of(&[(VERSION, 4), (TIMESTAMP, 8), (FIRMWARE_TYPE, 2)]);
+    let behind = random.one_of(&[(DIGEST, 32), (SIGNATURE, 64)]);
+    let (start, end) = (content_place(image, kind) - 4, content_place(image, behind.0) + behind.1);
+    image[start..end].rotate_left(4 + len);
+}
+
+/// Makes the image fail with one of NUMBERS. What follows the firmware belongs to the image too.
 pub fn fail_with(random: &mut Random, image: &mut [u8], number: u32) {
     let (kind, len) = random.one_of(&MANDATORY);
     let (at, hint) = (content_place(image, kind), content_place(image, HINT));
@@ -27,6 +37,7 @@ pub fn fail_with(random: &mut Random, image: &mut [u8], number: u32) {
             image[at - 2] = short as u8;
             image[at + short..at + len].fill(0xff);
         }
+        30 => uncover(random, image),
         _ => {
             let last = SIZE - 1 + u32::from_le_bytes([image[4], image[5], image[6], image[7]]) as usize;
             let [digest, timestamp] = [DIGEST, TIMESTAMP].map(|kind| content_place(image, kind));

@@ -37,7 +37,7 @@ fn image(random: &mut Random, version: u32, room: usize) -> Vec<u8> {
     let mut image = images::with(random, fields, firmware_len);
     image.extend_from_slice(&rest[image.len()..]);
     if random.percent(30) {
-        let number = 11 + random.up_to(6) as u32;
+        let number = random.one_of(&faults::NUMBERS);
         faults::fail_with(random, &mut image, number);
     }
     image
