@@ -14,7 +14,7 @@ use Rattle.header.specs.Lookup.{ofKind}
 use Rattle.header.specs.Seen.{numberAfter, mustBeCovered, uncoveredAfter}
 use Rattle.header.specs.Types.{versionType, timestampType, firmwareType}
 use Rattle.header.specs.declared.tags.Tag.{Tag}
-use Rattle.header.proofs.Order.{Ordered, first-is}
+use Rattle.header.proofs.Order.{Ordered, none, one, first-is}
 use Rattle.header.proofs.Refusals.{Once, all-once}
 
 -- whether one of some tags is as asked
@@ -106,14 +106,14 @@ module _ (m : Mandatory) where
   -- the only tag of another type stands behind the only one of type m where it does not start before it
   module _ (k : ℕ) (other : eqb (m .kind) k ≡ false) where
     stands-behind :
-        (ts : List Tag) →
+        {ts : List Tag} →
         Ordered ts →
         {t d : Tag} →
         ofKind k ts ≡ t ∷ [] →
         ofKind (m .kind) ts ≡ d ∷ [] →
         late k ts ≡ not (ltb (t .at) (d .at))
-    stands-behind [] o e f = absurd (let z : _≡_ {A = ℕ} 0 1 = cc in omega arith)
-    stands-behind (u ∷ ts) o {t} {d} e f = go (eqb (u .kind) (m .kind)) refl (eqb (u .kind) k) refl e f (stands-behind ts (o .1))
+    stands-behind none e f = absurd (let z : _≡_ {A = ℕ} 0 1 = cc in omega arith)
+    stands-behind (one {t = u} {ts} before o) {t} {d} e f = go (eqb (u .kind) (m .kind)) refl (eqb (u .kind) k) refl e f (stands-behind o)
       where
         go :
             (b : Bool) →
@@ -127,12 +127,12 @@ module _ (m : Mandatory) where
         go true p true q e f ih = never (sym (eq-eqb (m .kind) k (sym (eqb-true _ _ p) ∙ eqb-true _ _ q)) ∙ other)
         go true p false q e f ih =
             let same : u ≡ d = cc in
-            let l : u .at + u .len + 4 ≤ t .at = o .0 t (first-is k ts e) in
+            let l : u .at + u .len + 4 ≤ t .at = before t (first-is k ts e) in
             rw (has k ts _ e, ← same, le-ltb (t .at) (u .at) (omega arith))
         go false p true q e f ih =
             let same : u ≡ t = cc in
             let empty : ofKind k ts ≡ [] = cc in
-            let l : u .at + u .len + 4 ≤ d .at = o .0 d (first-is (m .kind) ts f) in
+            let l : u .at + u .len + 4 ≤ d .at = before d (first-is (m .kind) ts f) in
             rw (none-behind k ts (has k ts _ empty), ← same, lt-ltb (u .at) (d .at) (omega arith))
         go false p false q e f ih = ih e f
 
@@ -144,7 +144,7 @@ module _ (m : Mandatory) where
         Once i (ofKind k ts) →
         Once j (ofKind (m .kind) ts) →
         coveredCheck (ofKind k ts) (ofKind (m .kind) ts) ≡ cond (late k ts) 30 0
-    told-behind ts o t d = rw (stands-behind ts o (t .is) (d .is), t .is, d .is) (go (ltb (t .tag .at) (d .tag .at)))
+    told-behind ts o t d = rw (stands-behind o (t .is) (d .is), t .is, d .is) (go (ltb (t .tag .at) (d .tag .at)))
       where
         go : (b : Bool) → _≡_ {A = ℕ} (cond b 0 30) (cond (not b) 30 0)
         go true = refl

@@ -49,7 +49,7 @@ starts-before i long k o p e =
     let before : t .at < d .at =
     by-test (λ (r : ℕ). r ≡ 0 → t .at < d .at) (ltb (t .at) (d .at)) (λ b e. ltb-true _ _ b) (λ b e. absurd (omega arith))
     (rw (o .is, p .is) at e) in
-    let ends : t .at + t .len + 4 ≤ d .at = apart tags (ordered i 256 8) (first-is k tags (o .is)) (first-is digestType tags (p .is)) before in
+    let ends : t .at + t .len + 4 ≤ d .at = apart (ordered i 256 8) (first-is k tags (o .is)) (first-is digestType tags (p .is)) before in
     record {
       tag = t;
       found = found;

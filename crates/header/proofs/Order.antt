@@ -22,21 +22,21 @@ each-good s e p t =
     p
 
 -- each tag ends before every later one starts
-abbrev pub Ordered : List Tag → Type 0
-Ordered [] = 0 ≤ 0
-Ordered (t ∷ ts) = ((u : Tag) → List·Memᴰ u ts → t .at + t .len + 4 ≤ u .at) × Ordered ts
+pub data Ordered : List Tag → Type 0 where
+  none : Ordered []
+  one : {t : Tag} {ts : List Tag} → ((u : Tag) → List·Memᴰ u ts → t .at + t .len + 4 ≤ u .at) → Ordered ts → Ordered (t ∷ ts)
 
 pub ordered : (s : List ℕ) (e p : ℕ) → Ordered (walk s e p .tags)
 ordered s e =
     walk-ind s e (λ (q : ℕ) (w : Walk). Ordered (w .tags))
-    (λ q n d. omega arith)
+    (λ q n d. none)
     (λ q r l b ih. ih)
-    (λ q t g ih. (λ u m. omega (arith, each-good s e (t .at + t .len) u m), ih))
+    (λ q t g ih. one (λ u m. omega (arith, each-good s e (t .at + t .len) u m)) ih)
 
 -- of two tags the one whose content starts first ends before the other starts
-pub apart : (ts : List Tag) → Ordered ts → {t u : Tag} → List·Memᴰ t ts → List·Memᴰ u ts → t .at < u .at → t .at + t .len + 4 ≤ u .at
-apart [] o m n l = absurd (List·Memᴰ·not-nil m)
-apart (v ∷ ts) o {t} {u} m n l = go (List·Memᴰ·cases-cons m) (List·Memᴰ·cases-cons n) (λ p q. apart ts (o .1) p q l)
+pub apart : {ts : List Tag} → Ordered ts → {t u : Tag} → List·Memᴰ t ts → List·Memᴰ u ts → t .at < u .at → t .at + t .len + 4 ≤ u .at
+apart none m n l = absurd (List·Memᴰ·not-nil m)
+apart (one {t = v} {ts} before o) {t} {u} m n l = go (List·Memᴰ·cases-cons m) (List·Memᴰ·cases-cons n) (λ p q. apart o p q l)
   where
     go :
         (t ≡ v) ⊎ List·Memᴰ t ts →
@@ -44,8 +44,8 @@ apart (v ∷ ts) o {t} {u} m n l = go (List·Memᴰ·cases-cons m) (List·Memᴰ
         (List·Memᴰ t ts → List·Memᴰ u ts → t .at + t .len + 4 ≤ u .at) →
         t .at + t .len + 4 ≤ u .at
     go (inl p) (inl q) ih = absurd (let e : t .at ≡ u .at = ap (λ (t : Tag). t .at) (p ∙ sym q) in omega arith)
-    go (inl p) (inr q) ih = rw p (o .0 u q)
-    go (inr p) (inl q) ih = absurd (let e : u .at ≡ v .at = ap (λ (t : Tag). t .at) q in omega (arith, o .0 t p))
+    go (inl p) (inr q) ih = rw p (before u q)
+    go (inr p) (inl q) ih = absurd (let e : u .at ≡ v .at = ap (λ (t : Tag). t .at) q in omega (arith, before t p))
     go (inr p) (inr q) ih = ih p q
 
 -- a tag of type k is one of the tags
