@@ -20,7 +20,7 @@ EXAMPLES = """examples:
 The key and the image of the second example are those that the examples of ./frondicare pack --help make."""
 # The number for what the digest has to cover and doesn't.
 UNCOVERED = 30
-COVERED = {VERSION: "version", TIMESTAMP: "timestamp", FIRMWARE_TYPE: "firmware type"}
+NAMES = {VERSION: "version", TIMESTAMP: "timestamp", FIRMWARE_TYPE: "firmware type"}
 # From 2000 to 2100.
 DATES = range(946684800, 4102444800)
 
@@ -85,7 +85,7 @@ def run(given):
     if fields:
         print(*described(fields, data, key), f"signature  {signature}", sep="\n")
     if number == UNCOVERED:
-        print("uncovered ", ", ".join(COVERED[kind] for kind in uncovered(list(walk(data)))))
+        print("uncovered ", ", ".join(NAMES[kind] for kind in uncovered(list(walk(data)))))
     passes = "passes" if key else "passes, if the signature is good"
     print(told(given.image, f"refused: {in_words(number)}" if number else passes))
     return 1 if number else 0

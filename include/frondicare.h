@@ -231,7 +231,8 @@ uint32_t frondicare_check_geometry(size_t flash_len, size_t sector_size, size_t 
 
 /* The next step of an update or of a return, or a boot, or a refusal. The flash is only read.
  * Boot: 0: no update or return was considered; 11 to 18, 30: the image in UPDATE doesn't pass, as
- * frondicare_verify says it; 19: its version is not greater than that of the image in BOOT.
+ * frondicare_verify says it; 19: its version is not greater than that of the image in BOOT (which has
+ * none where its header fails 11 to 16 or 30, and then any version is taken).
  * Refused: 1 to 4 as above; 20: UPDATE's flags are ill-formed; 11 to 18, 30: nothing is to be swapped,
  * and the image in BOOT doesn't pass. */
 frondicare_answer frondicare_next_step(const uint8_t *flash, size_t flash_len,

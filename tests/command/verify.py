@@ -62,7 +62,8 @@ def check_verdicts(caller):
     with ThreadPoolExecutor(os.cpu_count()) as pool:
         for i, (name, (image, number)) in enumerate(images(caller.folder).items()):
             (caller.folder / name).write_bytes(image)
-            for words, n in (([name, "--key", ("desk.pem", "desk.pub")[i % 2]], number), ([name], number % 18)):
+            bare = 0 if number == 18 else number
+            for words, n in (([name, "--key", ("desk.pem", "desk.pub")[i % 2]], number), ([name], bare)):
                 assert n == verdict(image, n != 18), name
                 seen[pool.submit(check_verdict, caller, words, name, n)] = n
     assert {n for done, n in seen.items() if done.result() is None} == {0, *range(10, 19), 30}

@@ -29,7 +29,8 @@ class End(NamedTuple):
     def words(self):
         word, number = self.line.split()
         if word == "REFUSE":
-            slot = "BOOT: " if number in [str(known) for known in range(11, 19)] else "UPDATE: " * (number == "20")
+            verdicts = [str(known) for known in (*range(11, 19), 30)]
+            slot = "BOOT: " if number in verdicts else "UPDATE: " * (number == "20")
             return f"refused: {slot}{in_words(int(number))}"
         return f"boots version {number}{ {0x10: ' on trial', 0x00: ' confirmed'}.get(self.trailer(BOOT), '')}"
 

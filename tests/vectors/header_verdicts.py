@@ -78,7 +78,8 @@ LATE = {"version": (T, Y, D, V, S), "timestamp": (V, Y, D, T, S), "firmware type
 
 
 def uncovered():
-    """Each of these, alone and with each other number. The digest is right where nothing else is said."""
+    """Each of these, alone and with numbers that come before it and behind it. The digest is right where nothing else
+    is said."""
     cases = []
     for name, tags in LATE.items():
         first, second, _, late, _ = tags
@@ -106,9 +107,14 @@ UNCOVERED = [
     verify("digest tag first", image(D, V, T, Y, S), 30),
     verify("tags in reverse", image(S, D, H, Y, T, V), 30),
     verify("signature first, firmware type behind the digest", image(S, V, T, D, Y), 30),
-    verify("timestamp missing, version uncovered", image(Y, D, V, S), 14),
-    verify("firmware type too short, version uncovered", image(T, D, V, shorter(Y), S), 16),
-    verify("firmware type repeated, version uncovered", image(T, Y, D, V, Y, S), 15),
+    verify("10 before version uncovered", image(T, Y, D, V, S)[:255], 10),
+    verify("11 before version uncovered", changed(image(T, Y, D, V, S), 0, 0), 11),
+    verify("12 before version uncovered", sized(image(T, Y, D, V, S), 0), 12),
+    verify("14 before version uncovered, timestamp missing", image(Y, D, V, S), 14),
+    verify("14 before version uncovered, firmware type missing", image(T, D, V, S), 14),
+    verify("15 before version uncovered, signature repeated", image(T, Y, D, V, S, S), 15),
+    verify("15 before version uncovered, firmware type repeated", image(T, Y, D, V, Y, S), 15),
+    verify("16 before version uncovered, firmware type too short", image(T, D, V, shorter(Y), S), 16),
 ]
 PLAIN = image(V, T, Y, H, D, S)
 HALF = image(V, T, Y, D, S, firmware=bytes(256))

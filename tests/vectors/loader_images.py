@@ -1,6 +1,6 @@
 """Images that the cases lay into the slots."""
 from model.writer import tag, write
-from tests.vectors.header_verdicts import BAD, PAD, PLAIN, D, S, T, V, Y, changed, image, shorter, sized
+from tests.vectors.header_verdicts import BAD, LATE, PAD, PLAIN, D, S, T, V, Y, changed, image, shorter, sized
 
 
 def written(version, firmware=b"\x11" * 256):
@@ -19,9 +19,9 @@ BROKEN = {
     15: image(V, T, Y, D, S, V),
     16: image(V, T, shorter(Y), D, S),
     17: changed(PLAIN, 263, 0),
-    30: image(T, Y, D, S, V),
+    30: image(*LATE["version"]),
 }
 # The other two types that the digest has to cover, behind it.
-LATE_TYPES = {"timestamp": image(V, Y, D, T, S), "firmware type": image(V, T, D, S, Y)}
+LATE_TYPES = {name: image(*LATE[name]) for name in ("timestamp", "firmware type")}
 # Padding before the version, and a type whose high byte is FF.
 PADDED = image(PAD, tag(0xFF34, b"b"), PAD * 3, V, PAD, T, Y, PAD * 2, D, S)

@@ -2,7 +2,7 @@
 -- it behind that one.
 -- Assumes nothing.
 use Prim.Native.Nat.{ℕ, _+_, _≤_}
-use mathlib.Core.Bool.{Bool, true, false, cond, not, _||_}
+use mathlib.Core.Bool.{Bool, true, false, cond, not, _||_, or-assoc}
 use mathlib.Core.List.{List, [], _∷_}
 use mathlib.Core.Path.{_≡_, refl, sym, _∙_}
 use native.Mathlib.Omega.{arith}
@@ -16,41 +16,7 @@ use Rattle.header.specs.Types.{versionType, timestampType, firmwareType}
 use Rattle.header.specs.declared.tags.Tag.{Tag}
 use Rattle.header.proofs.Order.{Ordered, none, one, first-is}
 use Rattle.header.proofs.Refusals.{Once, all-once}
-
--- whether one of some tags is as asked
-abbrev some : (Tag → Bool) → List Tag → Bool
-some f [] = false
-some f (t ∷ ts) = f t || some f ts
-
-some-or : (f g : Tag → Bool) (ts : List Tag) → some (λ (t : Tag). f t || g t) ts ≡ (some f ts || some g ts)
-some-or f g [] = refl
-some-or f g (t ∷ ts) = rw (some-or f g ts) (go (f t) (g t) (some f ts) (some g ts))
-  where
-    go : (a b c d : Bool) → (a || b || (c || d)) ≡ (a || c || (b || d))
-    go true b c d = refl
-    go false true true d = refl
-    go false true false d = refl
-    go false false c d = refl
-
-abbrev notEmpty : List Tag → Bool
-notEmpty [] = false
-notEmpty (t ∷ ts) = true
-
-or-false : (a b : Bool) → (a || b) ≡ false → b ≡ false
-or-false true b e = never e
-or-false false b e = e
-
-abbrev hasType : ℕ → Tag → Bool
-hasType k t = eqb (t .kind) k
-
--- whether there is a tag of a type, by the list of them
-has : (k : ℕ) (ts us : List Tag) → ofKind k ts ≡ us → some (hasType k) ts ≡ notEmpty us
-has k [] us e = rw (← e)
-has k (t ∷ ts) us e = rw (← e) (go (eqb (t .kind) k) (has k ts (ofKind k ts) refl))
-  where
-    go : (b : Bool) → some (hasType k) ts ≡ notEmpty (ofKind k ts) → (b || some (hasType k) ts) ≡ notEmpty (cond b (t ∷ ofKind k ts) (ofKind k ts))
-    go true ih = refl
-    go false ih = ih
+use Rattle.header.proofs.Some.{some, some-or, or-right, hasType, has}
 
 abbrev must : Tag → Bool
 must t = mustBeCovered (t .kind)
@@ -79,10 +45,6 @@ module _ (m : Mandatory) where
       rw n
       (from-first _ _ ts (by-test (λ (r : ℕ). eqb r 14 ≡ false) (eqb (t .kind) (m .kind)) (λ b. refl) (λ b. n))
       ∙ or-assoc u (must t) (some must ts))
-    where
-      or-assoc : (a b c : Bool) → (a || b || c) ≡ (a || (b || c))
-      or-assoc true b c = refl
-      or-assoc false b c = refl
 
   -- before it none does
   from-start : (ts : List Tag) → uncoveredAll 14 false ts ≡ some must (behind ts)
@@ -101,7 +63,7 @@ module _ (m : Mandatory) where
   none-behind k [] e = refl
   none-behind k (t ∷ ts) e =
       by-test (λ (us : List Tag). some (hasType k) us ≡ false) (eqb (t .kind) (m .kind))
-      (λ b. or-false (hasType k t) (some (hasType k) ts) e) (λ b. none-behind k ts (or-false (hasType k t) (some (hasType k) ts) e))
+      (λ b. or-right (hasType k t) (some (hasType k) ts) e) (λ b. none-behind k ts (or-right (hasType k t) (some (hasType k) ts) e))
 
   -- the only tag of another type stands behind the only one of type m where it does not start before it
   module _ (k : ℕ) (other : eqb (m .kind) k ≡ false) where
@@ -157,9 +119,9 @@ first-of-three false false true = refl
 first-of-three false false false = refl
 
 -- where each mandatory type has its one tag, this is what the check says
-pub all-covered : (ts : List Tag) → Ordered ts → tagsCheck ts ≡ 0 → cond (uncoveredAll digestTag 14 false ts) 30 0 ≡ coverageCheck ts
+pub coverage-told : (ts : List Tag) → Ordered ts → tagsCheck ts ≡ 0 → cond (uncoveredAll digestTag 14 false ts) 30 0 ≡ coverageCheck ts
 unfolding coverageCheck
-all-covered ts o e =
+coverage-told ts o e =
     let m = digestTag in
     let each = all-once ts e in
     let only = each .digest in

@@ -14,7 +14,7 @@ use Rattle.header.specs.declared.tags.Tag.{Tag}
 use Rattle.header.specs.declared.tags.WalkStep.the-variants.{Stop, Padding, Met}
 use Rattle.header.specs.declared.tags.WalkStep.{WalkStep}
 use Rattle.compare.proofs.Tests.{by-test}
-use Rattle.header.proofs.Behind.{uncoveredAll, all-covered}
+use Rattle.header.proofs.Behind.{uncoveredAll, coverage-told}
 use Rattle.header.proofs.Order.{Ordered}
 use Rattle.header.proofs.Refusals.{first-one, then-last}
 use Rattle.header.proofs.Walk.{walk-step}
@@ -97,7 +97,7 @@ tags-checked ts o =
       seen-of digestTag ts,
       seen-of signatureTag ts,
       seen-of firmwareTag ts,
-    ) (then-last (map (λ (m : Mandatory). mandatoryCheck (m .len) (ofKind (m .kind) ts)) mandatory) _ _ (all-covered ts o))
+    ) (then-last (map (λ (m : Mandatory). mandatoryCheck (m .len) (ofKind (m .kind) ts)) mandatory) _ _ (coverage-told ts o))
 
 pub all-checked :
     (w : Walk) →

@@ -46,11 +46,11 @@ pub record Once (n : ℕ) (ts : List Tag) : Type 0 where
   pub is : ts ≡ tag ∷ []
   pub long : tag .len ≡ n
 
-once : (n : ℕ) (ts : List Tag) → mandatoryCheck n ts ≡ 0 → Once n ts
-once n [] e = absurd (omega arith)
-once n (t ∷ []) e =
+single : (n : ℕ) (ts : List Tag) → mandatoryCheck n ts ≡ 0 → Once n ts
+single n [] e = absurd (omega arith)
+single n (t ∷ []) e =
     record { tag = t; is = refl; long = by-test (λ (r : ℕ). r ≡ 0 → t .len ≡ n) (eqb (t .len) n) (λ b e. eqb-true _ _ b) (λ b e. absurd (omega arith)) e }
-once n (t ∷ (u ∷ ts)) e = absurd (omega arith)
+single n (t ∷ (u ∷ ts)) e = absurd (omega arith)
 
 -- each mandatory type has its one tag
 pub record AllOnce (ts : List Tag) : Type 0 where
@@ -65,11 +65,11 @@ unfolding tagsCheck
 all-once ts e =
     let zeros = zero-at (map (λ (m : Mandatory). mandatoryCheck (m .len) (ofKind (m .kind) ts)) mandatory) in
     record {
-      version = once 4 _ (zeros 0 e);
-      timestamp = once 8 _ (zeros 1 e);
-      digest = once 32 _ (zeros 2 e);
-      signature = once 64 _ (zeros 3 e);
-      «firmware-type» = once 2 _ (zeros 4 e);
+      version = single 4 _ (zeros 0 e);
+      timestamp = single 8 _ (zeros 1 e);
+      digest = single 32 _ (zeros 2 e);
+      signature = single 64 _ (zeros 3 e);
+      «firmware-type» = single 2 _ (zeros 4 e);
     }
 
 size-fits : (i : List ℕ) → sizeCheck i ≡ 0 → 256 + sizeOf i ≤ length i

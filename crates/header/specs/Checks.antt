@@ -74,8 +74,8 @@ tagsCheck ts = firstRefusal (map (λ (m : Mandatory). mandatoryCheck (m .len) (o
 abbrev pub coveredTypes : List ℕ
 coveredTypes = versionType ∷ timestampType ∷ firmwareType ∷ []
 
--- Of such a type's tags and the digest tags: 30 where the tag does not start before the first digest tag, by the places of their contents,
--- four bytes on. After check 16 each stands exactly once; where one is missing, 14 has said so.
+-- Of such a type's tags and the digest tags: 30 where the tag does not start before the first digest tag. (A tag's content is four bytes
+-- behind its start, so contents compare as starts do.) After check 16 each stands exactly once; where one is missing, 14 has said so.
 abbrev pub coveredCheck : List Tag → List Tag → ℕ
 coveredCheck [] ds = 0
 coveredCheck (t ∷ ts) [] = 0

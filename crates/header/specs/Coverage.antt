@@ -1,9 +1,9 @@
 -- Document 02, R-2: what an image whose header passes has under its digest.
 use Prim.Native.Nat.{ℕ, _+_, _≤_}
-use mathlib.Core.List.{List}
+use mathlib.Core.List.{List, [], _∷_}
 use mathlib.Core.Path.{_≡_}
 use lib.ListN.{length, take, drop}
-use Rattle.header.specs.Checks.{coverageCheck, headerCheck}
+use Rattle.header.specs.Checks.{firstRefusal, lengthCheck, markCheck, sizeCheck, walkCheck, tagsCheck, headerCheck}
 use Rattle.header.specs.Lookup.{lookup, viewOf, coveredOf}
 use Rattle.header.specs.Types.{versionType, timestampType, firmwareType}
 use Rattle.header.specs.Walk.{headerWalk}
@@ -22,7 +22,15 @@ pub record AllCovered (i : List ℕ) : Type 0 where
   pub timestamp : Covered i timestampType
   pub «firmware-type» : Covered i firmwareType
 
--- Where the header passes, all three are covered; and check 30 asks for no more than that. Proved in proofs/Coverage.antt.
+-- the checks of document 01 alone, 10 to 16
+abbrev pub earlierChecks : List ℕ → ℕ
+earlierChecks i =
+    firstRefusal
+    (lengthCheck i ∷ markCheck i ∷ sizeCheck i ∷ walkCheck (headerWalk i .number) ∷ tagsCheck (headerWalk i .tags) ∷ [])
+
+-- Number 30 comes behind these, and exactly where not all three are covered. Proved in proofs/Coverage.antt.
 pub record CoverageChecked : Type 0 where
+  pub earlier : (i : List ℕ) → (earlierChecks i ≡ 0 → ⊥) → headerCheck i ≡ earlierChecks i
+  pub passes : (i : List ℕ) → earlierChecks i ≡ 0 → AllCovered i → headerCheck i ≡ 0
+  pub refused : (i : List ℕ) → earlierChecks i ≡ 0 → (AllCovered i → ⊥) → headerCheck i ≡ 30
   pub covered : (i : List ℕ) → headerCheck i ≡ 0 → AllCovered i
-  pub no-more : (i : List ℕ) → AllCovered i → coverageCheck (headerWalk i .tags) ≡ 0

@@ -1,7 +1,7 @@
 -- Two images that pass with the same digest are alike in what the digest covers, unless their messages collide.
 -- Assumes nothing.
 use Prim.Native.Nat.{ℕ, _≤_}
-use mathlib.Core.Bool.{Bool}
+use mathlib.Core.Bool.{true}
 use mathlib.Core.List.{List, [], _∷_}
 use mathlib.Core.Path.{_≡_, refl, sym, ap, _∙_}
 use native.Mathlib.Omega.{arith}
@@ -30,10 +30,10 @@ record Passes (i : List ℕ) : Type 0 where
   starts : 8 ≤ length (coveredOf i)
   long : length (firmwareOf i) ≡ sizeOf i
 
-passes : (i : List ℕ) (a : Bool) → verdict i a ≡ 0 → Passes i
+passes : (i : List ℕ) → verdict i true ≡ 0 → Passes i
 unfolding verdict
-passes i a e =
-    let zeros = zero-at (headerCheck i ∷ digestCheck i ∷ signatureCheck a ∷ []) in
+passes i e =
+    let zeros = zero-at (headerCheck i ∷ digestCheck i ∷ signatureCheck true ∷ []) in
     let all = coverage-checked .covered i (zeros 0 e) in
     record {
       header = zeros 0 e;
@@ -51,9 +51,9 @@ size-in i l = sym (covered-start i 8 l) ∙ sym (take-append-le 8 (coveredOf i) 
 
 pub digest-tells : DigestTells
 unfolding digestOf
-digest-tells i j a b e f d n =
-    let p = passes i a e in
-    let q = passes j b f in
+digest-tells i j e f d n =
+    let p = passes i e in
+    let q = passes j f in
     let m : messageOf i ≡ messageOf j = n (sym (p .digest) ∙ d ∙ q .digest) in
     let sizes : sizeOf i ≡ sizeOf j =
     number-same i j 8 (size-in i (p .starts) ∙ ap (take 8) m ∙ sym (size-in j (q .starts))) 4 4 (omega arith) in
