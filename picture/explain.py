@@ -16,7 +16,7 @@ from picture.words import FEW, FLAGS, NAMES, flags_text, refusal_text, step_text
 
 def image_text(g, flash, slot):
     number = verdict(g, flash, (True, True), slot)
-    return f"version {version(g, flash, slot)}" if number == 0 else f"no whole image, {in_words(number)}"
+    return f"version {version(g, flash, slot)}" if number == 0 else f"no image that passes, {in_words(number)}"
 
 
 def trailer_text(g, flash, slot):

@@ -17,7 +17,7 @@ def image_text(held):
     try:
         header.verify(held, True)
     except Refused as refused:
-        return f"no whole image, {in_words(refused.number)}"
+        return f"no image that passes, {in_words(refused.number)}"
     return f"version {header.version(held)}"
 
 

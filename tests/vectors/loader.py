@@ -71,7 +71,7 @@ def main():
     texts = answer_all()
     check(zip(CASES, texts))
     check_calls()
-    write(CASES, texts, record, 500_000)
+    write(CASES, texts, record, 524_000)
 
 
 if __name__ == "__main__":

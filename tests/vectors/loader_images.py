@@ -1,6 +1,6 @@
 """Images that the cases lay into the slots."""
 from model.writer import tag, write
-from tests.vectors.header_verdicts import BAD, LATE, PAD, PLAIN, D, S, T, V, Y, changed, image, shorter, sized
+from tests.vectors.header_verdicts import BAD, LATE, PAD, PLAIN, C, D, S, T, V, Y, changed, image, shorter, sized
 
 
 def written(version, firmware=b"\x11" * 256):
@@ -23,5 +23,12 @@ BROKEN = {
 }
 # The other two types that the digest has to cover, behind it.
 LATE_TYPES = {name: image(*LATE[name]) for name in ("timestamp", "firmware type")}
+# What else may stand behind the digest, and be wrong beside an uncovered version.
+CUSTOM_BEHIND = image(V, T, Y, D, C, S)
+UNCOVERED_TOO = {
+    "padding between": image(T, Y, PAD * 2, D, PAD * 9, V, S),
+    "digest repeated": image(T, Y, D, V, D, S),
+    "digest differs": changed(image(*LATE["version"]), 263, 0),
+}
 # Padding before the version, and a type whose high byte is FF.
 PADDED = image(PAD, tag(0xFF34, b"b"), PAD * 3, V, PAD, T, Y, PAD * 2, D, S)

@@ -1,6 +1,6 @@
 """Cases of an update that is to begin: UPDATE's verdict, and the version rule where BOOT isn't on trial."""
 from tests.vectors.loader_case import B10, BOOT_ONLY, BOTH, NEITHER, U70, UPDATE_ONLY, Case, filled
-from tests.vectors.loader_images import BROKEN, LATE_TYPES, ONE, PADDED, TWO, written
+from tests.vectors.loader_images import BROKEN, CUSTOM_BEHIND, LATE_TYPES, ONE, PADDED, TWO, UNCOVERED_TOO, written
 
 BEGINS = "C 768 1536"
 # Bits of the answers that don't count.
@@ -63,6 +63,9 @@ INSTALLED = [
       for number in (*range(11, 17), 30)],
     *[Case(f"BOOT's {name} uncovered, lower version", "n", BEGINS, filled(late, ONE, U70))
       for name, late in LATE_TYPES.items()],
+    *[Case(f"BOOT's version uncovered, {name}, lower version", "n", BEGINS, filled(late, ONE, U70))
+      for name, late in UNCOVERED_TOO.items()],
+    Case("BOOT's custom tag behind the digest, lower version", "n", "BOOT 19", filled(CUSTOM_BEHIND, ONE, U70)),
     Case("BOOT's verdict 30, the same version", "n", BEGINS, filled(BROKEN[30], written(5), U70)),
     Case("BOOT's verdict 30, lower version, UPDATE's signature refused", "n", "REFUSE 30",
          filled(BROKEN[30], ONE, U70), BOOT_ONLY),

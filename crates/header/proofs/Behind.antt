@@ -16,7 +16,7 @@ use Rattle.header.specs.Types.{versionType, timestampType, firmwareType}
 use Rattle.header.specs.declared.tags.Tag.{Tag}
 use Rattle.header.proofs.Order.{Ordered, none, one, first-is}
 use Rattle.header.proofs.Refusals.{Once, all-once}
-use Rattle.header.proofs.Some.{some, some-or, or-right, hasType, has}
+use Rattle.header.proofs.SomeTag.{some, some-or, neither-right, hasType, has}
 
 abbrev must : Tag → Bool
 must t = mustBeCovered (t .kind)
@@ -63,7 +63,7 @@ module _ (m : Mandatory) where
   none-behind k [] e = refl
   none-behind k (t ∷ ts) e =
       by-test (λ (us : List Tag). some (hasType k) us ≡ false) (eqb (t .kind) (m .kind))
-      (λ b. or-right (hasType k t) (some (hasType k) ts) e) (λ b. none-behind k ts (or-right (hasType k t) (some (hasType k) ts) e))
+      (λ b. neither-right (hasType k t) (some (hasType k) ts) e) (λ b. none-behind k ts (neither-right (hasType k t) (some (hasType k) ts) e))
 
   -- the only tag of another type stands behind the only one of type m where it does not start before it
   module _ (k : ℕ) (other : eqb (m .kind) k ≡ false) where

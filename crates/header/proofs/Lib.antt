@@ -4,7 +4,7 @@ pub mod Lookups
 pub mod Prefix
 pub mod Order
 pub mod Refusals
-pub mod Some
+pub mod SomeTag
 pub mod Behind
 pub mod OneWalk
 pub mod Shown

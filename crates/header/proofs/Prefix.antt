@@ -1,4 +1,4 @@
--- What a lookup finds stands before the end of its content: headers that are the same up to there agree on it.
+-- A lookup reads nothing behind the place of the content that it finds: in a header that is the same up to there it finds the same.
 -- Assumes nothing.
 use Prim.Native.Nat.{ℕ, zero, suc, _+_, _<_, _≤_}
 use mathlib.Core.Bool.{Bool, true, false, cond}
@@ -16,7 +16,7 @@ use Rattle.header.specs.declared.tags.Tag.{Tag}
 use Rattle.header.specs.declared.tags.WalkStep.the-variants.{Stop, Padding, Met}
 use Rattle.header.specs.declared.tags.WalkStep.{WalkStep}
 use Rattle.header.proofs.Lookups.{found-good, long-enough, looked-up}
-use Rattle.header.proofs.Walk.{GoodStep, walk-step, step-good}
+use Rattle.header.proofs.Walk.{GoodStep, walk-step, step-good, from-later}
 
 -- a part of the first m
 pub part-of : (at n m : ℕ) (l : List ℕ) → at + n ≤ m → take n (drop at (take m l)) ≡ take n (drop at l)
@@ -42,13 +42,13 @@ module _ (h g : List ℕ) (m : ℕ) (same : take m h ≡ take m g) where
   module _ (e k : ℕ) {t : Tag} (before : t .at ≤ m) where
     by-step :
         (p : ℕ) →
-        ((q : ℕ) → p < q → first k (walk h e q) ≡ Found t → first k (walk g e q) ≡ Found t) →
+        ((q : ℕ) → p < q → q ≤ e → first k (walk h e q) ≡ Found t → first k (walk g e q) ≡ Found t) →
         (w : WalkStep) →
         GoodStep h e p w →
         first k (onStep (walk h e) w) ≡ Found t →
         first k (onStep (walk g e) w) ≡ Found t
     by-step p ih (Stop n) s f = f
-    by-step p ih (Padding q) s f = ih q (s .0) f
+    by-step p ih (Padding q) s f = ih q (s .0) (s .1) f
     by-step p ih (Met u) s f = go (eqb (u .kind) k) f
       where
         go :
@@ -56,17 +56,18 @@ module _ (h g : List ℕ) (m : ℕ) (same : take m h ≡ take m g) where
             cond b (Found u) (first k (walk h e (u .at + u .len))) ≡ Found t →
             cond b (Found u) (first k (walk g e (u .at + u .len))) ≡ Found t
         go true f = f
-        go false f = ih (u .at + u .len) (omega arith) f
+        go false f = ih (u .at + u .len) (omega arith) (s .inside) f
 
     -- the tag is found behind place p, so what is read at p stands before place m
-    first-same : (room p : ℕ) → e ≤ p + room → first k (walk h e p) ≡ Found t → first k (walk g e p) ≡ Found t
-    first-same zero p r f = let found = found-good h e p k f in absurd (omega arith)
-    first-same (suc room) p r f =
+    first-same : (p : ℕ) → first k (walk h e p) ≡ Found t → first k (walk g e p) ≡ Found t
+    first-same =
+        from-later e (λ (p : ℕ). first k (walk h e p) ≡ Found t → first k (walk g e p) ≡ Found t)
+        (λ p ih f.
         let found = found-good h e p k f in
         rw (walk-step g e p, ← step-same e p (omega arith))
-        (by-step p (λ q l. first-same room q (omega arith)) (stepAt h e p) (step-good h e p) (rw (walk-step h e p) at f))
+        (by-step p ih (stepAt h e p) (step-good h e p) (rw (walk-step h e p) at f)))
 
   pub lookup-same : (k : ℕ) {t : Tag} → t .at ≤ m → 256 ≤ length g → lookup h k ≡ Found t → lookup g k ≡ Found t
   lookup-same k {t} l long f =
       long-enough g k long
-      ∙ first-same 256 k l 256 8 (omega arith) (sym (long-enough h k (looked-up h k f .long)) ∙ f)
+      ∙ first-same 256 k l 8 (sym (long-enough h k (looked-up h k f .long)) ∙ f)

@@ -124,6 +124,14 @@ step-tag s e p {t} =
 pub on : (s : List ℕ) (e p : ℕ) {w : WalkStep} → stepAt s e p ≡ w → GoodStep s e p w
 on s e p q = subst (GoodStep s e p) q (step-good s e p)
 
+-- What holds at a place where it holds at all later ones up to e, holds at every place: a walk's steps lead on.
+pub from-later : (e : ℕ) (P : ℕ → Type 0) → ((p : ℕ) → ((q : ℕ) → p < q → q ≤ e → P q) → P p) → (p : ℕ) → P p
+from-later e P step p = by-room e p (omega arith)
+  where
+    by-room : (k p : ℕ) → e ≤ p + k → P p
+    by-room zero p h = step p (λ q l m. absurd (omega arith))
+    by-room (suc k) p h = step p (λ q l m. by-room k q (omega arith))
+
 -- What holds of a walk that stops at once, and of one that goes on where it holds of the rest, holds of the walk from every place.
 module _ (s : List ℕ) (e : ℕ) (P : ℕ → Walk → Type 0)
     (at-stop : (p n : ℕ) → (n ≡ 13) ⊎ (n ≡ 25) → P p (stopped n))
@@ -138,10 +146,6 @@ module _ (s : List ℕ) (e : ℕ) (P : ℕ → Walk → Type 0)
   by-step p (Padding q) g ih = at-padding p q (g .0) (g .1) (ih q (g .0) (g .1))
   by-step p (Met t) g ih = at-tag p t g (ih (t .at + t .len) (omega arith) (g .inside))
 
-  by-room : (k p : ℕ) → e ≤ p + k → P p (walk s e p)
-  by-room zero p h = rw (walk-step s e p) (by-step p (stepAt s e p) (step-good s e p) (λ q l m. absurd (omega arith)))
-  by-room (suc k) p h =
-      rw (walk-step s e p) (by-step p (stepAt s e p) (step-good s e p) (λ q l m. by-room k q (omega arith)))
-
   pub walk-ind : (p : ℕ) → P p (walk s e p)
-  walk-ind p = by-room e p (omega arith)
+  walk-ind =
+      from-later e (λ (p : ℕ). P p (walk s e p)) (λ p ih. rw (walk-step s e p) (by-step p (stepAt s e p) (step-good s e p) ih))

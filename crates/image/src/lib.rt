@@ -18,8 +18,8 @@ fn check_digest(image: &[u8]) -> u32
     }
 }
 
-// The number of the first of the checks 10 to 16, 30, 17, 18 that an image fails, or 0 where it passes. signed is
-// the signature checker's answer.
+// The number of the first of the checks 10 to 16, 30, 17, 18 that an image fails, or 0 where it passes.
+// signed is the signature checker's answer.
 pub fn verify(image: &[u8], signed: bool) -> u32
     ensures { λ r. ⌜ r ≡ verdict (now (image .entry)) signed ⌝ }
 {

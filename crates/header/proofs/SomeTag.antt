@@ -1,4 +1,4 @@
--- Whether there is a tag with some property among a list of tags.
+-- Whether some tag of a list has a property, and which types its tags have.
 -- Assumes nothing.
 use Prim.Native.Nat.{ℕ}
 use mathlib.Core.Bool.{Bool, true, false, cond, _||_}
@@ -28,9 +28,9 @@ abbrev notEmpty : List Tag → Bool
 notEmpty [] = false
 notEmpty (t ∷ ts) = true
 
-pub or-right : (a b : Bool) → (a || b) ≡ false → b ≡ false
-or-right true b e = never e
-or-right false b e = e
+pub neither-right : (a b : Bool) → (a || b) ≡ false → b ≡ false
+neither-right true b e = never e
+neither-right false b e = e
 
 abbrev pub hasType : ℕ → Tag → Bool
 hasType k t = eqb (t .kind) k
