@@ -14,7 +14,7 @@ from commands.options import Shown
 from commands.programs import ROOT
 from commands.streams import Stopped, end_by, give_up_output, prepare
 
-COMMANDS = ["digest", "pack", "verify", "simulate", "explain", "picture"]
+COMMANDS = ["digest", "pack", "verify", "tags", "simulate", "explain", "picture"]
 END = """./frondicare COMMAND --help says more about each, with examples.
 
 exit status: 0 done; 1 something failed, or a board or an image is refused; 2 the command is not understood

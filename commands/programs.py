@@ -13,7 +13,7 @@ from commands.failure import Failed
 ROOT = Path(__file__).resolve().parents[1]
 STAMPS = ROOT / "target/stamp"
 MINUTES = {"digest": "about a minute", "simulator": "about four minutes", "pack": "about two minutes",
-           "verify": "about two minutes"}
+           "verify": "about two minutes", "tags": "about a minute"}
 PROVED = re.compile(r"rt: \S+ proved \(\d+ s\)")
 UNCHANGED = "proved (unchanged since it was last proved)\n"
 # Prints a line when nobody else proves here.

@@ -1,15 +1,16 @@
 """Says what an image is and whether the loader takes it, which is the proved verdict. With --key its signature is
 checked too, by openssl; without, the verdict is that on an image whose signature is good. A refusal has status 1."""
 import subprocess
-from datetime import datetime, timezone
 
+from commands import tags
 from commands.failure import Failed, Misused
+from commands.header_words import NAMES, dated, in_hex
 from commands.inputs import contents, told
 from commands.keys import read_key
 from commands.options import Once
 from commands.outputs import work_folder
 from commands.programs import built
-from model.header import FIRMWARE_TYPE, TIMESTAMP, VERSION, uncovered, walk
+from model.header import HINT, uncovered
 from model.refusals import in_words
 
 HELP = "what an image is, and whether the loader takes it"
@@ -18,11 +19,9 @@ EXAMPLES = """examples:
   ./frondicare verify target/image.bin --key target/desk.pem
 
 The key and the image of the second example are those that the examples of ./frondicare pack --help make."""
+UNSIGNED = "(not covered by the digest, so not signed)"
 # The number for what the digest has to cover and doesn't.
 UNCOVERED = 30
-NAMES = {VERSION: "version", TIMESTAMP: "timestamp", FIRMWARE_TYPE: "firmware type"}
-# From 2000 to 2100.
-DATES = range(946684800, 4102444800)
 
 
 def options(parser):
@@ -48,15 +47,19 @@ def whose(hint, key):
 
 
 def described(fields, data, key):
-    """The header for a person."""
-    stamp, size, hint = int(fields["timestamp"]), int(fields["size"]), fields.get("hint")
-    date = f" ({datetime.fromtimestamp(stamp, timezone.utc):%Y-%m-%d %H:%M:%S} UTC)" if stamp in DATES else ""
+    """The header for a person. Of a custom tag or a hint that the digest doesn't cover, it is said."""
+    listed, _ = tags.listed(data)
+    covered = {tag: "" for tag in listed} | {tag: f" {UNSIGNED}" for tag in tags.unsigned(listed)}
+    size, hint = int(fields["size"]), fields.get("hint")
     behind = len(data) - 256 - size
     yield f"version    {fields['version']}"
-    yield f"timestamp  {stamp}{date}"
+    yield f"timestamp  {dated(int(fields['timestamp']))}"
     yield f"type       {fields['type']}"
     yield f"firmware   {size} bytes" + (f"; the {behind} bytes behind it do not count" if behind else "")
-    yield f"key hint   {hint or 'none of 32 bytes'}{whose(hint, key)}"
+    for tag in [tag for tag in listed if tag[0] not in NAMES]:
+        yield f"custom     0x{tag[0]:04x}{covered[tag]} {in_hex(data[tag[1]:tag[1] + tag[2]])}"
+    hinted = next((covered[tag] for tag in listed if tag[0] == HINT and hint), "")
+    yield f"key hint   {hint or 'none of 32 bytes'}{whose(hint, key)}{hinted}"
     yield f"digest     {fields['digest']}"
 
 
@@ -85,7 +88,7 @@ def run(given):
     if fields:
         print(*described(fields, data, key), f"signature  {signature}", sep="\n")
     if number == UNCOVERED:
-        print("uncovered ", ", ".join(NAMES[kind] for kind in uncovered(list(walk(data)))))
+        print("uncovered ", ", ".join(NAMES[kind] for kind in uncovered(tags.listed(data)[0])))
     passes = "passes" if key else "passes, if the signature is good"
     print(told(given.image, f"refused: {in_words(number)}" if number else passes))
     return 1 if number else 0

@@ -82,7 +82,8 @@
  *   a step makes the last flag 0.
  * - The machine, by the System V ABI: the stack pointer is a multiple of 16 at a call, an interrupt leaves the 128
  *   bytes below it alone, SSE2 registers can be used. A call takes at most 1,600 bytes of stack (a run; the others are
- *   in bench/RESULTS.md), beside memset's own. The code has 24 KB at most, no data that is written, and calls memset and nothing else. */
+ *   in bench/RESULTS.md), beside memset's own. The code has 24 KB at most, no data that is written, and calls memset
+ *   and nothing else. */
 #ifndef FRONDICARE_H
 #define FRONDICARE_H
 
@@ -91,10 +92,12 @@
 #include <stdint.h>
 
 /* What changed in which version: CHANGELOG.md. The number is for #if: 1.2.3 is 10203. */
-#define FRONDICARE_VERSION "0.5.0"
-#define FRONDICARE_VERSION_NUMBER 500
+#define FRONDICARE_VERSION "0.6.0"
+#define FRONDICARE_VERSION_NUMBER 600
 
 #define FRONDICARE_HEADER_SIZE 256
+/* Where a header's first tag may start: before it are the mark and the firmware's size. */
+#define FRONDICARE_FIRST_TAG 8
 /* A slot's last four bytes, where its trailer is sound: to initialize an array of bytes. */
 #define FRONDICARE_CLOSING_BYTES { 0x42, 0x4f, 0x4f, 0x54 }
 
@@ -170,6 +173,16 @@ typedef struct {
     size_t len;
 } frondicare_tag;
 
+/* A tag of a header: its type, where its content lies, and where the next lookup goes on. number is 0; or it says why
+ * not, and all else is 0. */
+typedef struct {
+    uint32_t number;
+    uint16_t type;
+    size_t at;
+    size_t len;
+    size_t next;
+} frondicare_listed_tag;
+
 /* The types of tags that a header has. */
 enum frondicare_tag_type {
     FRONDICARE_TAG_VERSION = 0x0001,
@@ -215,7 +228,8 @@ enum frondicare_number {
     FRONDICARE_ERR_CUSTOM_TAGS = 27,
     FRONDICARE_ERR_COUNTER = 28,
     FRONDICARE_ERR_MOST_STEPS = 29,
-    FRONDICARE_ERR_UNCOVERED = 30
+    FRONDICARE_ERR_UNCOVERED = 30,
+    FRONDICARE_ERR_START = 31
 };
 
 /* ---- The loader. The slots, BOOT and UPDATE, are sector_count + 1 sectors each, the last of them the trailer; SWAP is
@@ -316,6 +330,23 @@ frondicare_version frondicare_version_of(const uint8_t *image, size_t image_len)
  * version, timestamp and firmware type, but no tag behind the digest's: one may have been added there.
  * 10: shorter than 256; 13: a tag passes 256 before a match is met; 25: absent. */
 frondicare_tag frondicare_find_tag(const uint8_t *header, size_t header_len, uint16_t type);
+
+/* The same from a place of the header on, and of any type where any is true; type is ignored then. With it all tags are
+ * listed in their order, custom ones and repeated ones too, at most 62; show is the caller's. True: the list is whole.
+ *
+ *     bool list_tags(const uint8_t *header, size_t header_len)
+ *     {
+ *         frondicare_listed_tag tag = frondicare_next_tag(header, header_len, FRONDICARE_FIRST_TAG, true, 0);
+ *         for (; tag.number == FRONDICARE_OK; tag = frondicare_next_tag(header, header_len, tag.next, true, 0))
+ *             show(tag.type, header + tag.at, tag.len);
+ *         return tag.number == FRONDICARE_ERR_NO_SUCH_TAG;
+ *     }
+ *
+ * from is FRONDICARE_FIRST_TAG or an answer's next. Any place from 8 to 256 is taken: in the middle of a tag, what
+ * stands there is read as if a tag started. 10: shorter than 256; 31: from is below 8 or above 256; 13: a tag passes
+ * 256 before a match is met; 25: absent, as always from 256. The first that applies is answered, in this order. */
+frondicare_listed_tag frondicare_next_tag(const uint8_t *header, size_t header_len, size_t from,
+                                          bool any, uint16_t type);
 
 /* ---- To make an image: frondicare_digest_to_sign, sign the digest, then frondicare_write_header with the same
  * arguments; the image is the 256 bytes of the buffer, then the firmware. */

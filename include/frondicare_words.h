@@ -29,12 +29,13 @@ static inline const char *frondicare_in_words(uint32_t number)
     case 22: return "a swap is under way";
     case 23: return "the image in BOOT is neither on trial nor confirmed";
     case 24: return "the step is not accepted";
-    case 25: return "there is no tag of that type";
+    case 25: return "there is no such tag";
     case 26: return "the custom tags have more than 82 bytes";
     case 27: return "the custom tags are ill-formed";
     case 28: return "a counter of steps has no room for 4096 more";
     case 29: return "more than 4096 steps are asked for";
     case 30: return "the digest doesn't cover version, timestamp or firmware type";
+    case 31: return "a lookup starts below 8 or above 256";
     default: return "no such number";
     }
 }

@@ -1,4 +1,4 @@
-"""Document 01's header, read, and the verdict on an image, with R-2 of document 02."""
+"""Document 01's header, read, and the verdict on an image, with R-2 and R-4 of document 02."""
 import hashlib
 import struct
 
@@ -11,9 +11,8 @@ COVERED = (VERSION, TIMESTAMP, FIRMWARE_TYPE)
 MARK = bytes.fromhex("57 4F 4C 46")
 
 
-def walk(header):
-    """Type, place of the content and length of each tag."""
-    p = 8
+def walk(header, p=8):
+    """Type, place of the content and length of each tag from a place on."""
     while p != 256:
         if header[p] == 0xFF:
             p += 1
@@ -27,13 +26,31 @@ def walk(header):
         p += 4 + length
 
 
+def find_from(header, start, kind=None):
+    """Lookup from a place on, of a type or of any: the tag's type, its content's place and length, and where the walk
+    goes on."""
+    refuse(len(header) < 256, 10)
+    refuse(not 8 <= start <= 256, 31)
+    for found, at, length in walk(header, start):
+        if kind in (None, found):
+            return found, at, length, at + length
+    raise Refused(25)
+
+
 def find(header, kind):
     """Lookup: the place and the length of the first content of this type."""
-    refuse(len(header) < 256, 10)
-    for found, at, length in walk(header):
-        if found == kind:
-            return at, length
-    raise Refused(25)
+    return find_from(header, 8, kind)[1:3]
+
+
+def listed(header):
+    """Each tag's type, place and length, by lookups, each from where the last one goes on; and their last number."""
+    tags, place = [], 8
+    try:
+        while True:
+            *tag, place = find_from(header, place)
+            tags.append(tuple(tag))
+    except Refused as refused:
+        return tags, refused.number
 
 
 def view(header, kind):

@@ -3,6 +3,7 @@
 mod compare;
 mod loader_calls;
 mod run_calls;
+mod tag_calls;
 
 use compare::compare;
 use frondicare_tests::flash::{self, Geometry, Step};
@@ -84,6 +85,7 @@ fn main() {
         || plain_header(&parts(black_box(&firmware))),
         || frondicare::write_header(header::SIZE, &parts(black_box(&firmware)), &SIGNATURE),
     );
+    tag_calls::all_calls(&image(FIELDS.version, &firmware[..256]));
     steps(4096, 20_000);
     steps(256, 200_000);
     loader_calls::all();

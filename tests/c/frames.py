@@ -9,7 +9,7 @@ import sys
 
 LIBRARY = "target/staticlib/libfrondicare.a"
 MOST = 512
-ENTRIES = 18
+ENTRIES = 19
 
 FUNCTION = re.compile(r"[0-9a-f]+ <(.+)>:$")
 PUSH = re.compile(r"\tpush ")

@@ -34,7 +34,7 @@ static void numbers(void)
         FRONDICARE_ERR_SIGNATURE, FRONDICARE_ERR_VERSION, FRONDICARE_ERR_FLAGS, FRONDICARE_ERR_ON_TRIAL,
         FRONDICARE_ERR_SWAP_BEGUN, FRONDICARE_ERR_NOTHING_ON_TRIAL, FRONDICARE_ERR_STEP, FRONDICARE_ERR_NO_SUCH_TAG,
         FRONDICARE_ERR_CUSTOM_LENGTH, FRONDICARE_ERR_CUSTOM_TAGS, FRONDICARE_ERR_COUNTER, FRONDICARE_ERR_MOST_STEPS,
-        FRONDICARE_ERR_UNCOVERED,
+        FRONDICARE_ERR_UNCOVERED, FRONDICARE_ERR_START,
     };
     uint32_t i;
     for (i = 0; i < sizeof from_1 / sizeof *from_1; i++)
@@ -57,6 +57,36 @@ static void tags(void)
         check(tag.number == FRONDICARE_OK && tag.at == expected[i].at && tag.len == expected[i].len, "a tag's type");
     }
     check(frondicare_find_tag(flash, FRONDICARE_HEADER_SIZE - 1, 1).number == FRONDICARE_ERR_HEADER_LENGTH, "header");
+}
+
+/* Lookups of any type list what a written header has, in that order, and end with 25. */
+static void listed(void)
+{
+    static const uint16_t expected[] = {
+        FRONDICARE_TAG_VERSION, FRONDICARE_TAG_TIMESTAMP, FRONDICARE_TAG_FIRMWARE_TYPE, FRONDICARE_TAG_KEY_HINT,
+        FRONDICARE_TAG_DIGEST, FRONDICARE_TAG_SIGNATURE,
+    };
+    enum { TAGS = sizeof expected / sizeof *expected };
+    const uint8_t *header = flash + UPDATE;
+    frondicare_listed_tag tag = { .next = FRONDICARE_FIRST_TAG };
+    size_t count = 0;
+    staged();
+    while ((tag = frondicare_next_tag(header, 256, tag.next, true, 0)).number == FRONDICARE_OK) {
+        frondicare_tag found = frondicare_find_tag(header, 256, tag.type);
+        check(count < TAGS && tag.type == expected[count], "a listed tag's type");
+        check(tag.at == found.at && tag.len == found.len && tag.next == tag.at + tag.len, "a listed tag's place");
+        count++;
+    }
+    check(count == TAGS && tag.number == FRONDICARE_ERR_NO_SUCH_TAG, "the list's end");
+    check(tag.type == 0 && tag.at == 0 && tag.len == 0 && tag.next == 0, "nothing beside the number");
+    check(frondicare_next_tag(header, 256, 7, true, 0).number == FRONDICARE_ERR_START, "start below 8");
+    check(frondicare_next_tag(header, 256, 257, true, 0).number == FRONDICARE_ERR_START, "start above 256");
+    check(frondicare_next_tag(header, 256, SIZE_MAX, true, 0).number == FRONDICARE_ERR_START, "start at 2^64 - 1");
+    check(frondicare_next_tag(header, 256, ((size_t)1 << 32) + 8, true, 0).number == 31, "start at 2^32 + 8");
+    check(frondicare_next_tag(header, 256, 256, true, 0).number == FRONDICARE_ERR_NO_SUCH_TAG, "start at 256");
+    check(frondicare_next_tag(header, 255, 7, true, 0).number == FRONDICARE_ERR_HEADER_LENGTH, "length first");
+    check(frondicare_next_tag(header, 256, 16, false, FRONDICARE_TAG_VERSION).number == 25, "none behind the first");
+    check(frondicare_next_tag(header, 256, 16, true, FRONDICARE_TAG_VERSION).type == 2, "the type is ignored");
 }
 
 static void versions(void)
@@ -182,6 +212,7 @@ int main(void)
     constants();
     numbers();
     tags();
+    listed();
     versions();
     states();
     with_a_geometry();

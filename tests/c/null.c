@@ -48,7 +48,13 @@ static void of_digests(const uint8_t *none)
 static void of_images(const uint8_t *none)
 {
     frondicare_tag tag = frondicare_find_tag(none, 0, FRONDICARE_TAG_VERSION);
+    frondicare_listed_tag listed = frondicare_next_tag(none, 0, FRONDICARE_FIRST_TAG, true, 0);
     frondicare_version version = frondicare_version_of(none, 0);
+    see(listed.number);
+    see(listed.type);
+    see(listed.at);
+    see(listed.len);
+    see(listed.next);
     see(tag.number);
     see(tag.at);
     see(tag.len);

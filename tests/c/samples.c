@@ -1,5 +1,6 @@
 /* The samples in the header's comment, as they stand there: with power lost at every step of an update and of the
- * return after it, and again in the power-up after that. And the shortest loader over a run, which loses an update. */
+ * return after it, and again in the power-up after that; the list of a header's tags. And the shortest loader over a
+ * run, which loses an update. */
 #include "board.h"
 #include "frondicare_geometry.h"
 
@@ -26,9 +27,20 @@ static void flash_copy(size_t from, size_t to)
     flash_write(to, flash + from, SECTOR);
 }
 
+/* What the list of tags showed: the number of tags, their types added up, and their last byte. */
+static struct { size_t count; uint32_t types; uint8_t last; } shown;
+
+static void show(uint16_t type, const uint8_t *content, size_t len)
+{
+    shown.count++;
+    shown.types += type;
+    shown.last = len > 0 ? content[len - 1] : 0;
+}
+
 void carry_out(frondicare_answer a);
 bool power_up_by_steps(void);
 bool power_up_by_run(void);
+bool list_tags(const uint8_t *header, size_t header_len);
 #include "samples.h" /* made by tests/c/samples.py */
 
 static bool (*const samples[])(void) = { power_up_by_steps, power_up_by_run };
@@ -151,6 +163,19 @@ static void given_up(const uint8_t *start)
     worn = false;
 }
 
+/* A written header has six tags; with its last one a byte longer than the header, five and then none. */
+static void listed(void)
+{
+    uint8_t header[256];
+    memcpy(header, flash + UPDATE, 256);
+    check(list_tags(header, 256) && shown.count == 6 && shown.types == 0x66, "all tags are listed");
+    check(shown.last == header[SIGNATURE + 63], "with their contents");
+    header[SIGNATURE - 2] = 256 - SIGNATURE + 1;
+    memset(&shown, 0, sizeof shown);
+    check(!list_tags(header, 256) && shown.count == 5 && shown.types == 0x46, "a bad tag ends the list");
+    check(!list_tags(header, 255) && shown.count == 5, "a short header has none");
+}
+
 int main(void)
 {
     static uint8_t start[FLASH];
@@ -158,6 +183,7 @@ int main(void)
     staged();
     memcpy(flash + UPDATE_STATE, "\x70" "BOOT", 5);
     memcpy(start, flash, FLASH);
+    listed();
     lost(start);
     one_signed(start);
     damaged_in_mid_swap(start);

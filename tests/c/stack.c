@@ -53,6 +53,7 @@ static int report_images(size_t base)
     failed |= report("frondicare_digest_to_sign", digest_to_sign, base, MOST);
     failed |= report("frondicare_write_header", write_header, base, MOST);
     failed |= report("frondicare_find_tag", find_tag, base, MOST);
+    failed |= report("frondicare_next_tag", next_tag, base, MOST);
     failed |= report("frondicare_version_of", version_of, base, MOST);
     return failed | report("frondicare_verify", verify, base, MOST);
 }

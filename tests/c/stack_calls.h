@@ -23,6 +23,7 @@ static void one_piece(void) { number = frondicare_digest(message, 1000, digest);
 static void two_pieces(void) { number = frondicare_digest_of_two(message, 70, message + 70, 930, digest); }
 static void verify(void) { number = frondicare_verify(image, sizeof image, true); }
 static void version_of(void) { number = frondicare_version_of(image, sizeof image).number; }
+static void next_tag(void) { number = frondicare_next_tag(image, sizeof image, 8, false, 0x0020).number; }
 static void find_tag(void) { number = frondicare_find_tag(image, sizeof image, 0x0020).number; }
 
 /* Two custom tags, so that the run is read too. The message stands for hint and signature. */

@@ -16,8 +16,8 @@ if __name__ == "__main__":
 from tests.command.called import COMMAND, ROOT, STOPPING, Caller, hear_signals
 from tests.command.installed import check_installed
 
-COMMANDS = ["digest", "pack", "verify", "simulate", "explain", "picture"]
-READING = ["digest", "simulate", "explain", "picture", "verify"]
+COMMANDS = ["digest", "pack", "verify", "tags", "simulate", "explain", "picture"]
+READING = ["digest", "simulate", "explain", "picture", "verify", "tags"]
 BOARD = ROOT / "examples/board/update.bin"
 PACK = ["pack", BOARD, "--version", "2", "--hint", ROOT / "crates/pack/data/hint"]
 
@@ -42,8 +42,8 @@ def check_help(caller):
 def check_usage(caller):
     """Status 2, and in words what is missing or too much."""
     cases = [("COMMAND", []), ("invalid choice: 'no'", ["no"]), ("--no", ["digest", "--no"]),
-             ("two", ["digest", "one", "two"]), ("two", ["simulate", "one", "two"]), ("BOARD", ["explain"]),
-             ("BOARD", ["picture"]), ("IMAGE", ["verify"]), ("FIRMWARE, --version", ["pack"]),
+             ("two", ["digest", "one", "two"]), ("two", ["simulate", "one", "two"]), ("two", ["tags", "one", "two"]),
+             ("BOARD", ["explain"]), ("BOARD", ["picture"]), ("IMAGE", ["verify"]), ("FIRMWARE, --version", ["pack"]),
              ("--version", ["pack", "firmware"]), ("FIRMWARE", ["pack", "--version", "2"]),
              ("--ver", ["pack", "--ver", "2", "firmware"]), ("--key", ["verify", "image", "--key"]),
              ("--key is given twice", ["verify", "image", "--key", "one", "--key", "two"]),

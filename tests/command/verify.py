@@ -69,6 +69,26 @@ def check_verdicts(caller):
     assert {n for done, n in seen.items() if done.result() is None} == {0, *range(10, 19), 30}
 
 
+def check_custom(caller):
+    """Custom tags are listed, with those that stand between digest and signature or behind both; and a hint's place."""
+    mark = "(not covered by the digest, so not signed) "
+    good = image_by(caller.folder, "desk", custom=tag(0x34, b"\xdd\xcc") + tag(0xFF35, b"") + tag(0x34, b"\1\2\3\4\5"))
+    digest = good.index(tag(3, good[93:125]))
+    assert digest == 89
+    added = good[:125] + tag(0x36, b"\2") + good[125:193] + tag(0x37, b"") + good[202:]
+    moved = good[:53] + good[89:125] + good[53:89] + good[125:]
+    for name, image in (("added", added), ("moved", moved)):
+        (caller.folder / name).write_bytes(image)
+    lines = caller.said("verify", "added", "--key", "desk.pub").splitlines()
+    covered = ["custom     0x0034 ddcc", "custom     0xff35 empty", "custom     0x0034 0102030405"]
+    assert [line for line in lines if line.startswith("custom")] == [
+        *covered, f"custom     0x0036 {mark}02", f"custom     0x0037 {mark}empty"], lines
+    lines = caller.run(COMMAND, "verify", "moved").stdout.splitlines()
+    hints = [line for line in lines if line.startswith(("custom", "key hint"))]
+    assert hints == [*covered, f"key hint   {hint(caller.folder, 'desk').hex()} {mark.rstrip()}"], lines
+    assert "custom" not in caller.said("verify", "good")
+
+
 def check_words(caller):
     """What an image is, for a person."""
     def said(name, *words):
@@ -83,6 +103,7 @@ def check_words(caller):
     assert foreign["signature"] == "not by desk.pub" and foreign["key"].endswith(", not that of desk.pub"), foreign
     assert said("disguised", "--key", "desk.pub")["key"].endswith(", that of desk.pub")
     assert said("dump")["firmware"].endswith("; the 100 bytes behind it do not count")
+    check_custom(caller)
     late = {"late": "version, timestamp, firmware type", "late version": "version", "late type": "firmware type"}
     for name, names in late.items():
         told = f"uncovered  {names}\n{name}: refused: {in_words(30)}\n"

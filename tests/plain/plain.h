@@ -10,6 +10,7 @@ extern __typeof__(frondicare_digest) plain_digest;
 extern __typeof__(frondicare_digest_of_two) plain_digest_of_two;
 extern __typeof__(frondicare_verify) plain_verify;
 extern __typeof__(frondicare_find_tag) plain_find_tag;
+extern __typeof__(frondicare_next_tag) plain_next_tag;
 extern __typeof__(frondicare_version_of) plain_version_of;
 extern __typeof__(frondicare_digest_to_sign) plain_digest_to_sign;
 extern __typeof__(frondicare_write_header) plain_write_header;

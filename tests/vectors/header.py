@@ -13,12 +13,13 @@ from model.refusals import Refused
 from tests.vectors import header_lookups, header_verdicts, header_writes, stored
 
 CASES = header_lookups.CASES + header_verdicts.CASES + header_writes.CASES
-NUMBERS = [10, 11, 12, 13, 14, 15, 16, 17, 18, 25, 26, 27, 30]
+NUMBERS = [10, 11, 12, 13, 14, 15, 16, 17, 18, 25, 26, 27, 30, 31]
 
 
 def record(case):
-    head = struct.pack("<BBHIIIQHH", ord(case.command), case.signature_ok, case.kind, len(case.body), len(case.custom),
-                       *case.fields, case.buffer_length)
+    flag, number = (case.any, case.start) if case.command == "L" else (case.signature_ok, case.buffer_length)
+    head = struct.pack("<BBHIIIQHH", ord(case.command), flag, case.kind, len(case.body), len(case.custom), *case.fields,
+                       number)
     parts = case.hint + case.signature if case.command in "DH" else b""
     return head + case.body + case.custom + parts
 
@@ -27,6 +28,8 @@ def accepted(case):
     """What the program prints after the name where nothing is refused."""
     if case.command == "F":
         return "{} {}".format(*header.find(case.body, case.kind))
+    if case.command == "L":
+        return "{} {} {} {}".format(*header.find_from(case.body, case.start, None if case.any else case.kind))
     if case.command == "W":
         return header.view(case.body, case.kind).hex()
     if case.command == "V":

@@ -9,6 +9,8 @@ class Case:
     body: bytes
     says: str = None
     kind: int = 0
+    any: int = 0
+    start: int = 0
     signature_ok: int = 0
     custom: bytes = b""
     fields: tuple = (0, 0, 0)

@@ -22,6 +22,11 @@ def find(name, header, kind, says):
     return Case(name, "F", header, says, kind=kind)
 
 
+def find_from(name, header, start, kind, says):
+    """Of any type where that is None."""
+    return Case(name, "L", header, says, kind=kind or 0, any=int(kind is None), start=start)
+
+
 def view(name, header, kind, says):
     return Case(name, "W", header, says, kind=kind)
 
@@ -29,6 +34,8 @@ def view(name, header, kind, says):
 VERSION_5 = blank((8, hexed("FF FF 01 00 04 00 05 00 00 00")))
 TWO = blank((8, tag(FREE, b"first") + tag(FREE, b"second")))
 BAD_AFTER = blank((8, tag(FREE, b"ok")), (20, hexed("43 00 FF FF")))
+MIXED = blank((8, tag(HINT, b"hint") + tag(FREE, b"")), (30, tag(FREE, b"again")))
+WITHIN = blank((8, tag(FREE, tag(VERSION, b"1234") + b"\xff")))
 ENDED = blank((8, tag(FREE, b"ok") + hexed("00 00 03 00") + tag(VERSION, b"late")))
 
 # Document 01's bench cases, with the answers that it states.
@@ -87,4 +94,40 @@ CASES = BENCH + [
     view("view behind a bad tag is empty", BAD_AFTER, HINT, ""),
     view("view of a short header is empty", TWO[:255], FREE, ""),
     view("view up to 256", blank((250, tag(FREE, b"\x01\x02"))), FREE, "0102"),
+] + [
+    find_from("any tag from 8", MIXED, 8, None, "16 12 4 16"),
+    find_from("any tag from where the first one leads", MIXED, 16, None, "66 20 0 20"),
+    find_from("any tag from a padding", MIXED, 20, None, "66 34 5 39"),
+    find_from("any tag from behind the last one", MIXED, 39, None, "REFUSE 25"),
+    find_from("a type from 8", MIXED, 8, FREE, "66 20 0 20"),
+    find_from("a type from behind its first tag", MIXED, 20, FREE, "66 34 5 39"),
+    find_from("a type from behind its only tag", MIXED, 16, HINT, "REFUSE 25"),
+    find_from("a repeated type from its second tag's place", TWO, 17, FREE, "66 21 6 27"),
+    find_from("from within a content, a tag stands there", WITHIN, 12, None, "1 16 4 20"),
+    find_from("from within a content, of its own type", WITHIN, 12, FREE, "REFUSE 25"),
+    find_from("from a tag's length", WITHIN, 10, None, "9 14 1 15"),
+    find_from("from a content's last byte of padding", WITHIN, 20, None, "REFUSE 25"),
+    find_from("from within a content that reads as a bad tag", blank((8, tag(FREE, b"wide"))), 13, None, "REFUSE 13"),
+    find_from("start 7", MIXED, 7, None, "REFUSE 31"),
+    find_from("start 0", MIXED, 0, HINT, "REFUSE 31"),
+    find_from("start 256", MIXED, 256, None, "REFUSE 25"),
+    find_from("start 256 behind a bad tag", BAD_AFTER, 256, None, "REFUSE 25"),
+    find_from("start 256 in a longer header", blank() + tag(FREE, b"abc") + bytes(37), 256, None, "REFUSE 25"),
+    find_from("start 257", MIXED, 257, None, "REFUSE 31"),
+    find_from("start 257 in a longer header", blank() + bytes(44), 257, None, "REFUSE 31"),
+    find_from("start 65535", MIXED, 65535, HINT, "REFUSE 31"),
+    find_from("start 255 in padding", blank(), 255, None, "REFUSE 25"),
+    find_from("start 253 at a byte", blank((253, b"\x01")), 253, None, "REFUSE 13"),
+    find_from("start 252 at a tag of length 0", blank((252, tag(FREE, b""))), 252, None, "66 256 0 256"),
+    find_from("short header before a bad start", MIXED[:255], 7, None, "REFUSE 10"),
+    find_from("empty header, any tag", b"", 8, None, "REFUSE 10"),
+    find_from("bad start before a bad tag", BAD_AFTER, 257, None, "REFUSE 31"),
+    find_from("bad tag from its place", BAD_AFTER, 20, None, "REFUSE 13"),
+    find_from("any tag before a bad one", BAD_AFTER, 8, None, "66 12 2 14"),
+    find_from("type 0000 ends the walk for any type", ENDED, 14, None, "REFUSE 25"),
+    find_from("from behind type 0000", ENDED, 18, None, "1 22 4 26"),
+    find_from("type 0000 is none, not any", MIXED, 8, 0x0000, "REFUSE 25"),
+    find_from("type FFFF is none, not any", MIXED, 8, 0xFFFF, "REFUSE 25"),
+    find_from("any type, with padding before it", VERSION_5, 8, None, "1 14 4 18"),
+    find_from("type FF34 is one of any", blank((8, tag(0xFF34, b"ab"))), 8, None, "65332 12 2 14"),
 ]

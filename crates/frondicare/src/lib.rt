@@ -4,6 +4,7 @@ mod flash_entries;
 mod loader_entries;
 mod run_entries;
 mod state_entries;
+mod tag_entries;
 
 ghost use mathlib.Core.Path.{_≡_};
 ghost use mathlib.Core.List.{_++_};

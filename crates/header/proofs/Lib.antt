@@ -1,6 +1,7 @@
 pub mod Numbers
 pub mod Walk
 pub mod Lookups
+pub mod Listing
 pub mod Prefix
 pub mod Order
 pub mod Refusals

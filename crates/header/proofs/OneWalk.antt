@@ -1,6 +1,6 @@
 -- The mandatory types checked in one walk: what is seen tag by tag comes to what the tags of each type say.
 -- Assumes nothing.
-use Prim.Native.Nat.{ℕ, _+_}
+use Prim.Native.Nat.{ℕ}
 use mathlib.Core.Bool.{Bool, true, false, cond}
 use mathlib.Core.List.{List, [], _∷_, map}
 use mathlib.Core.Path.{_≡_, refl, ap, _∙_}
@@ -116,5 +116,5 @@ module _ (h : List ℕ) (p : ℕ) (s : Seen) where
   pub checked-padding : {q : ℕ} → stepAt h 256 p ≡ Padding q → checked s (walk h 256 p) ≡ checked s (walk h 256 q)
   checked-padding q = step-of q
 
-  pub checked-tag : {t : Tag} → stepAt h 256 p ≡ Met t → checked s (walk h 256 p) ≡ checked (seenAfter s t) (walk h 256 (t .at + t .len))
+  pub checked-tag : {t : Tag} → stepAt h 256 p ≡ Met t → checked s (walk h 256 p) ≡ checked (seenAfter s t) (walk h 256 (t .next))
   checked-tag q = step-of q

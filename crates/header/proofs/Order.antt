@@ -31,7 +31,7 @@ ordered s e =
     walk-ind s e (λ (q : ℕ) (w : Walk). Ordered (w .tags))
     (λ q n d. none)
     (λ q r l b ih. ih)
-    (λ q t g ih. one (λ u m. omega (arith, each-good s e (t .at + t .len) u m)) ih)
+    (λ q t g ih. one (λ u m. omega (arith, each-good s e (t .next) u m)) ih)
 
 -- of two tags the one whose content starts first ends before the other starts
 pub apart : {ts : List Tag} → Ordered ts → {t u : Tag} → List·Memᴰ t ts → List·Memᴰ u ts → t .at < u .at → t .at + t .len + 4 ≤ u .at

@@ -5,14 +5,15 @@ use mathlib.Core.Bool.{Bool, true, false, cond}
 use mathlib.Core.List.{List, [], _∷_}
 use mathlib.Core.Path.{_≡_, refl, sym, ap, _∙_}
 use native.Mathlib.Omega.{arith}
-use lib.Dec.{eqb}
 use lib.ListN.{length, take, drop}
 use lib.Seq.{getD-take, take-take}
-use Rattle.header.specs.Lookup.{first, lookup}
+use Rattle.header.specs.Lookup.{matches, first, lookup}
 use Rattle.header.specs.Numbers.{byteAt, numberAt}
 use Rattle.header.specs.Walk.{stepAt, onStep, walk}
 use Rattle.header.specs.declared.tags.Lookup.the-variants.{Found}
 use Rattle.header.specs.declared.tags.Tag.{Tag}
+use Rattle.header.specs.declared.tags.Wanted.the-variants.{Kind}
+use Rattle.header.specs.declared.tags.Wanted.{Wanted}
 use Rattle.header.specs.declared.tags.WalkStep.the-variants.{Stop, Padding, Met}
 use Rattle.header.specs.declared.tags.WalkStep.{WalkStep}
 use Rattle.header.proofs.Lookups.{found-good, long-enough, looked-up}
@@ -39,35 +40,35 @@ module _ (h g : List ℕ) (m : ℕ) (same : take m h ≡ take m g) where
   unfolding stepAt
   step-same e p l = rw (byte-same p (omega arith), number-same 2 p (omega arith), number-same 2 (p + 2) (omega arith))
 
-  module _ (e k : ℕ) {t : Tag} (before : t .at ≤ m) where
+  module _ (e : ℕ) (v : Wanted) {t : Tag} (before : t .at ≤ m) where
     by-step :
         (p : ℕ) →
-        ((q : ℕ) → p < q → q ≤ e → first k (walk h e q) ≡ Found t → first k (walk g e q) ≡ Found t) →
+        ((q : ℕ) → p < q → q ≤ e → first v (walk h e q) ≡ Found t → first v (walk g e q) ≡ Found t) →
         (w : WalkStep) →
         GoodStep h e p w →
-        first k (onStep (walk h e) w) ≡ Found t →
-        first k (onStep (walk g e) w) ≡ Found t
+        first v (onStep (walk h e) w) ≡ Found t →
+        first v (onStep (walk g e) w) ≡ Found t
     by-step p ih (Stop n) s f = f
     by-step p ih (Padding q) s f = ih q (s .0) (s .1) f
-    by-step p ih (Met u) s f = go (eqb (u .kind) k) f
+    by-step p ih (Met u) s f = go (matches v (u .kind)) f
       where
         go :
             (b : Bool) →
-            cond b (Found u) (first k (walk h e (u .at + u .len))) ≡ Found t →
-            cond b (Found u) (first k (walk g e (u .at + u .len))) ≡ Found t
+            cond b (Found u) (first v (walk h e (u .next))) ≡ Found t →
+            cond b (Found u) (first v (walk g e (u .next))) ≡ Found t
         go true f = f
-        go false f = ih (u .at + u .len) (omega arith) (s .inside) f
+        go false f = ih (u .next) (omega arith) (omega arith) f
 
     -- the tag is found behind place p, so what is read at p stands before place m
-    first-same : (p : ℕ) → first k (walk h e p) ≡ Found t → first k (walk g e p) ≡ Found t
+    first-same : (p : ℕ) → first v (walk h e p) ≡ Found t → first v (walk g e p) ≡ Found t
     first-same =
-        from-later e (λ (p : ℕ). first k (walk h e p) ≡ Found t → first k (walk g e p) ≡ Found t)
+        from-later e (λ (p : ℕ). first v (walk h e p) ≡ Found t → first v (walk g e p) ≡ Found t)
         (λ p ih f.
-        let found = found-good h e p k f in
+        let found = found-good h e p v f in
         rw (walk-step g e p, ← step-same e p (omega arith))
         (by-step p ih (stepAt h e p) (step-good h e p) (rw (walk-step h e p) at f)))
 
   pub lookup-same : (k : ℕ) {t : Tag} → t .at ≤ m → 256 ≤ length g → lookup h k ≡ Found t → lookup g k ≡ Found t
   lookup-same k {t} l long f =
       long-enough g k long
-      ∙ first-same 256 k l 8 (sym (long-enough h k (looked-up h k f .long)) ∙ f)
+      ∙ first-same 256 (Kind k) l 8 (sym (long-enough h k (looked-up h k f .long)) ∙ f)

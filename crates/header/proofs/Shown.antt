@@ -12,6 +12,7 @@ use Rattle.header.specs.Walk.{Walk, walk, WalksStay}
 use Rattle.header.specs.declared.tags.Lookup.the-variants.{Found, Refused}
 use Rattle.header.specs.declared.tags.Lookup.{Lookup}
 use Rattle.header.specs.declared.tags.Tag.{Tag}
+use Rattle.header.specs.declared.tags.Wanted.the-variants.{Kind}
 use Rattle.header.proofs.Lookups.{not-found, long-enough, looked-up}
 use Rattle.header.proofs.Numbers.{low-byte}
 use Rattle.header.proofs.Order.{each-good}
@@ -27,6 +28,7 @@ stays s e p =
       stands = λ t m. each-good s e p t m .is;
       behind = λ t m. each-good s e p t m .starts;
       within = λ t m. each-good s e p t m .inside;
+      leads = λ t m. each-good s e p t m .leads;
       typed = λ t m. each-good s e p t m .typed;
       unpadded = λ t m. each-good s e p t m .unpadded;
     }
@@ -36,14 +38,14 @@ abbrev pub headOf : List Tag → ℕ → Lookup
 headOf [] n = Refused n
 headOf (t ∷ ts) n = Found t
 
-pub head-of : (k : ℕ) (ts : List Tag) (n : ℕ) → firstIn k ts n ≡ headOf (ofKind k ts) n
+pub head-of : (k : ℕ) (ts : List Tag) (n : ℕ) → firstIn (Kind k) ts n ≡ headOf (ofKind k ts) n
 head-of k [] n = refl
 head-of k (t ∷ ts) n =
-    by-test (λ (r : List Tag). cond (eqb (t .kind) k) (Found t) (firstIn k ts n) ≡ headOf r n) (eqb (t .kind) k)
+    by-test (λ (r : List Tag). cond (eqb (t .kind) k) (Found t) (firstIn (Kind k) ts n) ≡ headOf r n) (eqb (t .kind) k)
     (λ b. rw b) (λ b. rw b (head-of k ts n))
 
 -- a tag that is found has the type
-typed : (k : ℕ) (ts : List Tag) (n : ℕ) {t : Tag} → firstIn k ts n ≡ Found t → t .kind ≡ k
+typed : (k : ℕ) (ts : List Tag) (n : ℕ) {t : Tag} → firstIn (Kind k) ts n ≡ Found t → t .kind ≡ k
 typed k [] n {t} = λ h. not-found h
 typed k (u ∷ ts) n {t} =
     by-test (λ (r : Lookup). r ≡ Found t → t .kind ≡ k) (eqb (u .kind) k)

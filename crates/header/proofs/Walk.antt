@@ -28,6 +28,7 @@ pub record Good (s : List ℕ) (e p : ℕ) (t : Tag) : Type 0 where
   pub typed : t .kind ≡ 0 → ⊥
   pub unpadded : byteAt s (t .at - 4) ≡ 0xFF → ⊥
   pub starts : p + 4 ≤ t .at
+  pub leads : t .next ≡ t .at + t .len
   pub inside : t .at + t .len ≤ e
 
 abbrev pub GoodStep : List ℕ → ℕ → ℕ → WalkStep → Type 0
@@ -50,6 +51,7 @@ step-good s e p =
       typed = eqb-false _ _ typed;
       unpadded = rw at (eqb-false _ _ unpadded);
       starts = omega arith;
+      leads = refl;
       inside = omega (arith, ltb-false);
     })))))
 
@@ -60,7 +62,7 @@ on-same :
     onStep f w ≡ onStep g w
 on-same f g s e p (Stop n) q h = refl
 on-same f g s e p (Padding n) q h = h n (q .0) (q .1)
-on-same f g s e p (Met t) q h = ap (meets t) (h (t .at + t .len) (omega arith) (q .inside))
+on-same f g s e p (Met t) q h = ap (meets t) (h (t .next) (omega arith) (omega arith))
 
 -- with enough steps, one more changes nothing
 enough : (k : ℕ) (s : List ℕ) (e p : ℕ) → e ≤ p + k → walkIn (suc k) s e p ≡ walkIn (suc (suc k)) s e p
@@ -136,7 +138,7 @@ from-later e P step p = by-room e p (omega arith)
 module _ (s : List ℕ) (e : ℕ) (P : ℕ → Walk → Type 0)
     (at-stop : (p n : ℕ) → (n ≡ 13) ⊎ (n ≡ 25) → P p (stopped n))
     (at-padding : (p q : ℕ) → p < q → q ≤ e → P q (walk s e q) → P p (walk s e q))
-    (at-tag : (p : ℕ) (t : Tag) → Good s e p t → P (t .at + t .len) (walk s e (t .at + t .len)) → P p (meets t (walk s e (t .at + t .len)))) where
+    (at-tag : (p : ℕ) (t : Tag) → Good s e p t → P (t .next) (walk s e (t .next)) → P p (meets t (walk s e (t .next)))) where
   by-step :
       (p : ℕ) (w : WalkStep) →
       GoodStep s e p w →
@@ -144,7 +146,7 @@ module _ (s : List ℕ) (e : ℕ) (P : ℕ → Walk → Type 0)
       P p (onStep (walk s e) w)
   by-step p (Stop n) g ih = at-stop p n g
   by-step p (Padding q) g ih = at-padding p q (g .0) (g .1) (ih q (g .0) (g .1))
-  by-step p (Met t) g ih = at-tag p t g (ih (t .at + t .len) (omega arith) (g .inside))
+  by-step p (Met t) g ih = at-tag p t g (ih (t .next) (omega arith) (omega arith))
 
   pub walk-ind : (p : ℕ) → P p (walk s e p)
   walk-ind =

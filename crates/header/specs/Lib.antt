@@ -1,8 +1,9 @@
--- In the order of document 01, "Header"; then a claim of document 02; Seen is the code's own.
+-- In the order of document 01, "Header", with what document 02 adds to it (Listing, Coverage); Seen is the code's own.
 pub mod Numbers
 pub mod Types
 pub mod Walk
 pub mod Lookup
+pub mod Listing
 pub mod Checks
 pub mod Coverage
 pub mod Seen

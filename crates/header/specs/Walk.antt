@@ -10,9 +10,15 @@ use Rattle.header.specs.declared.tags.Tag.{Tag}
 use Rattle.header.specs.declared.tags.WalkStep.the-variants.{Stop, Padding, Met}
 use Rattle.header.specs.declared.tags.WalkStep.{WalkStep}
 
--- the tag at place p: type, then length, then content
+-- the tag at place p: type, then length, then content; the walk goes on behind that
 abbrev pub tagAt : List ℕ → ℕ → Tag
-tagAt s p = record { kind = numberAt 2 s p; at = p + 4; len = numberAt 2 s (p + 2) }
+tagAt s p =
+    record {
+      kind = numberAt 2 s p;
+      at = p + 4;
+      len = numberAt 2 s (p + 2);
+      next = p + 4 + numberAt 2 s (p + 2);
+    }
 
 -- One step at place p, where the tags end at place e, in a header 256. It stops with 25 at the walk's end, with 13 where a tag passes e.
 unfoldable pub stepAt : List ℕ → ℕ → ℕ → WalkStep
@@ -32,7 +38,7 @@ pub record Walk : Type 0 where
 abbrev pub onStep : (ℕ → Walk) → WalkStep → Walk
 onStep rest (Stop n) = record { tags = []; number = n }
 onStep rest (Padding p) = rest p
-onStep rest (Met t) = record { tags = t ∷ rest (t .at + t .len) .tags; number = rest (t .at + t .len) .number }
+onStep rest (Met t) = record { tags = t ∷ rest (t .next) .tags; number = rest (t .next) .number }
 
 -- the walk from place p, if it has no more than k steps
 unfoldable pub walkIn : ℕ → List ℕ → ℕ → ℕ → Walk
@@ -49,13 +55,14 @@ abbrev pub headerWalk : List ℕ → Walk
 headerWalk h = walk h 256 8
 
 -- A walk is its first step and the walk from there; it ends with 13 or 25; and every tag that it meets stands in the bytes, behind place p
--- and not beyond e, has a type other than 0000 and no low type byte FF.
+-- and not beyond e, leads on to right behind its content, has a type other than 0000 and no low type byte FF.
 pub record Stays (s : List ℕ) (e p : ℕ) : Type 0 where
   pub steps : walk s e p ≡ onStep (walk s e) (stepAt s e p)
   pub ends : (walk s e p .number ≡ 13) ⊎ (walk s e p .number ≡ 25)
   pub stands : (t : Tag) → List·Memᴰ t (walk s e p .tags) → t ≡ tagAt s (t .at - 4)
   pub behind : (t : Tag) → List·Memᴰ t (walk s e p .tags) → p + 4 ≤ t .at
   pub within : (t : Tag) → List·Memᴰ t (walk s e p .tags) → t .at + t .len ≤ e
+  pub leads : (t : Tag) → List·Memᴰ t (walk s e p .tags) → t .next ≡ t .at + t .len
   pub typed : (t : Tag) → List·Memᴰ t (walk s e p .tags) → t .kind ≡ 0 → ⊥
   pub unpadded : (t : Tag) → List·Memᴰ t (walk s e p .tags) → byteAt s (t .at - 4) ≡ 0xFF → ⊥
 

@@ -6,13 +6,13 @@ ghost use Rattle.header.specs.Checks.{firstRefusal, marked, walkCheck, t
 ghost use Rattle.header.specs.Seen.{numberAfter, uncoveredAfter, seenAfter, firstSeen};
 use crate::DIGEST;
 use crate::FIRMWARE_TYPE;
+use crate::FIRST;
 use crate::LENGTH;
 use crate::SIGNATURE;
 use crate::TIMESTAMP;
 use crate::VERSION;
 use crate::number::byte_at;
 use crate::number::u32_at;
-use crate::tags::FIRST;
 use crate::tags::Tag;
 use crate::tags::WalkStep;
 use crate::tags::walk_step;
@@ -129,7 +129,7 @@ fn check_tags(header: &[u8]) -> u32
             WalkStep::Padding(next) => p = next,
             WalkStep::Met(t) => {
                 seen = seen_after(seen, t);
-                p = t.at + t.len;
+                p = t.next;
             }
         }
     }

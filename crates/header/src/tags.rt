@@ -1,19 +1,17 @@
 // The walk over the tags of a header, or of any bytes that hold tags.
 ghost use mathlib.Core.Path.{_≡_};
 ghost use Rattle.header.specs.Walk.{stepAt, walk};
-ghost use Rattle.header.specs.Lookup.{first};
+ghost use Rattle.header.specs.Lookup.{matches, first};
 use crate::LENGTH;
 use crate::number::byte_at;
 use crate::number::u16_at;
 
-// The place of a header's first tag.
-pub(crate) const FIRST: usize = 8;
-
-// A tag: its type, and where its content starts and how long it is. The walk goes on behind that.
+// A tag: its type, where its content starts and how long it is, and where the walk goes on.
 pub struct Tag {
     pub kind: u16,
     pub at: usize,
     pub len: usize,
+    pub next: usize,
 }
 
 // What the walk finds at a place: it stops there, with the number that a lookup then answers; a byte
@@ -24,7 +22,13 @@ pub enum WalkStep {
     Met(Tag),
 }
 
-// The first tag of a type, or document 01's number.
+// Which tags a lookup is for: those of any type, or of one.
+pub enum Wanted {
+    Any,
+    Kind(u16),
+}
+
+// The first wanted tag, or the papers' number.
 pub enum Lookup {
     Found(Tag),
     Refused(u32),
@@ -52,12 +56,26 @@ pub fn walk_step(s: &[u8], end: usize, p: usize) -> WalkStep
     if end - at < len {
         return WalkStep::Stop(13);
     }
-    WalkStep::Met(Tag { kind, at, len })
+    WalkStep::Met(Tag {
+        kind,
+        at,
+        len,
+        next: at + len,
+    })
 }
 
-// The first tag of a type from a place of a header on.
-pub(crate) fn find(header: &[u8], start: usize, kind: u16) -> Lookup
-    ensures { λ r. ⌜ r ≡ first kind (walk (now (header .entry)) 256 start) ⌝ }
+fn is_wanted(wanted: Wanted, kind: u16) -> bool
+    ensures { λ r. ⌜ r ≡ matches wanted kind ⌝ }
+{
+    match wanted {
+        Wanted::Any => true,
+        Wanted::Kind(k) => kind == k,
+    }
+}
+
+// The first wanted tag from a place of a header on.
+pub(crate) fn find(header: &[u8], start: usize, wanted: Wanted) -> Lookup
+    ensures { λ r. ⌜ r ≡ first wanted (walk (now (header .entry)) 256 start) ⌝ }
 {
     let mut p = start;
     loop {
@@ -65,10 +83,10 @@ pub(crate) fn find(header: &[u8], start: usize, kind: u16) -> Lookup
             WalkStep::Stop(number) => return Lookup::Refused(number),
             WalkStep::Padding(next) => p = next,
             WalkStep::Met(t) => {
-                if t.kind == kind {
+                if is_wanted(wanted, t.kind) {
                     return Lookup::Found(t);
                 }
-                p = t.at + t.len;
+                p = t.next;
             }
         }
     }

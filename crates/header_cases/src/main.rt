@@ -7,6 +7,7 @@ mod record;
 
 ghost use Prim.Native.Nat.{_≤_, _<_};
 use header::Lookup;
+use header::Wanted;
 use header::byte_at;
 use header::u16_at;
 use header::u32_at;
@@ -24,6 +25,28 @@ fn find_tag(header: &[u8], kind: u16) {
         Lookup::Found(t) => {
             show::field(t.at as u64);
             show::decimal(t.len as u64);
+        }
+        Lookup::Refused(number) => show::refusal(number),
+    }
+}
+
+// The type in a record, or any.
+fn wanted(head: &[u8]) -> Wanted {
+    if byte_at(head, 1) == 1 {
+        Wanted::Any
+    } else {
+        Wanted::Kind(u16_at(head, 2))
+    }
+}
+
+// L: the same from a place on, of any type or of one, with the type and with where the walk goes on.
+fn next_tag(header: &[u8], head: &[u8]) {
+    match header::next_tag(header, u16_at(head, 26) as usize, wanted(head)) {
+        Lookup::Found(t) => {
+            show::field(t.kind as u64);
+            show::field(t.at as u64);
+            show::field(t.len as u64);
+            show::decimal(t.next as u64);
         }
         Lookup::Refused(number) => show::refusal(number),
     }
@@ -79,6 +102,7 @@ fn answer(head: &[u8], body: &[u8], custom: &[u8], keys: &[u8]) {
     let kind = u16_at(head, 2);
     match byte_at(head, 0) {
         b'F' => find_tag(body, kind),
+        b'L' => next_tag(body, head),
         b'W' => show::hex(header::view(body, kind)),
         b'V' => verify(body, byte_at(head, 1) == 1),
         b'N' => version_of(body),

@@ -5,7 +5,7 @@ use Prim.Native.Nat.{ℕ, _/_}
 use mathlib.Core.List.{List, _++_}
 use mathlib.Core.Path.{_≡_, refl, ap, _∙_}
 use lib.ListN.{length}
-use Rattle.header.specs.Lookup.{lookup, coveredOf}
+use Rattle.header.specs.Lookup.{lookupFrom, lookup, coveredOf}
 use Rattle.header.specs.Numbers.{numberAt}
 use Rattle.header.specs.Walk.{stepAt, walkIn, walk}
 use Rattle.image.specs.Verdict.{firmwareOf, digestOf}
@@ -58,7 +58,7 @@ unfolding covered message₁ padTo padding
 blocks₁ = refl
 
 hashed-is₁ : coveredOf one ++ firmwareOf one ≡ message₁
-unfolding covered image one message₁ numberAt stepAt walkIn walk lookup
+unfolding covered image one message₁ numberAt stepAt walkIn walk lookupFrom lookup
 hashed-is₁ = refl
 
 pub digest-one : digestOf one ≡ digestOne
@@ -87,7 +87,7 @@ unfolding covered message₂ padTo padding
 blocks₂ = refl
 
 hashed-is₂ : coveredOf two ++ firmwareOf two ≡ message₂
-unfolding covered image two message₂ numberAt stepAt walkIn walk lookup
+unfolding covered image two message₂ numberAt stepAt walkIn walk lookupFrom lookup
 hashed-is₂ = refl
 
 pub digest-two : digestOf two ≡ digestTwo

@@ -16,7 +16,7 @@ use Rattle.flash.specs.Cuts.{Bytes, sound}
 use Rattle.flash.specs.Geometry.{placed, disjoint, geometryCheck}
 use Rattle.flash.specs.Steps.{sectorStart, trailerByte, markPlace, closing, stepCheck, flashAfter}
 use Rattle.header.specs.Checks.{tagsCheck, coverageCheck, headerCheck, versionOf}
-use Rattle.header.specs.Lookup.{lookup, viewOf}
+use Rattle.header.specs.Lookup.{lookupFrom, lookup, viewOf}
 use Rattle.header.specs.Numbers.{numberAt}
 use Rattle.header.specs.Types.{digestType}
 use Rattle.header.specs.Walk.{stepAt, walkIn, walk}
@@ -47,11 +47,11 @@ unfolding verdict
 passing i d h v e = rw (h, v, e) (simp (same-self d))
 
 one-passes : verdict one true ≡ 0
-unfolding covered image one numberAt stepAt walkIn walk lookup tagsCheck coverageCheck headerCheck
+unfolding covered image one numberAt stepAt walkIn walk lookupFrom lookup tagsCheck coverageCheck headerCheck
 one-passes = passing one digestOne refl refl digest-one
 
 two-passes : verdict two true ≡ 0
-unfolding covered image two numberAt stepAt walkIn walk lookup tagsCheck coverageCheck headerCheck
+unfolding covered image two numberAt stepAt walkIn walk lookupFrom lookup tagsCheck coverageCheck headerCheck
 two-passes = passing two digestTwo refl refl digest-two
 
 boot-is : imageOf geometry board Boot ≡ one
@@ -69,11 +69,11 @@ passes Update = rw update-is two-passes
 -- ---- the premises
 
 one-first : versionOf one .version ≡ 1
-unfolding covered image one numberAt stepAt walkIn walk lookup tagsCheck coverageCheck headerCheck versionOf
+unfolding covered image one numberAt stepAt walkIn walk lookupFrom lookup tagsCheck coverageCheck headerCheck versionOf
 one-first = refl
 
 two-second : versionOf two .version ≡ 2
-unfolding covered image two numberAt stepAt walkIn walk lookup tagsCheck coverageCheck headerCheck versionOf
+unfolding covered image two numberAt stepAt walkIn walk lookupFrom lookup tagsCheck coverageCheck headerCheck versionOf
 two-second = refl
 
 -- a list of bytes, as a test
@@ -131,7 +131,7 @@ record Ran (o : Outcome) : Type 0 where
   version : versionOf (imageOf geometry (o .flash) Boot) .version ≡ 2
 
 looked-run : Ran (withVerdict looked)
-unfolding covered image one two board looked versionRule numberAt stepAt walkIn walk lookup tagsCheck coverageCheck headerCheck versionOf
+unfolding covered image one two board looked versionRule numberAt stepAt walkIn walk lookupFrom lookup tagsCheck coverageCheck headerCheck versionOf
     runOf runCheck roomy countsCheck runFor meets allUpdated nextStep decision stagedDecision finish spend passedOver bootOr goBack
     source target nextFlag exchangeStep half withHalf flagAt flag tab flags wellFormed lowestUnfinished flagStep flagStepOf offset bytesAt imageOf
     stateAt soundWith renewedTo allButState renew same all blank overlay ands write sound placed disjoint geometryCheck sectorStart trailerByte

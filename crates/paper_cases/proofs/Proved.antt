@@ -8,7 +8,7 @@ use Rattle.flash.specs.Cuts.{sound}
 use Rattle.flash.specs.Geometry.{placed, disjoint, geometryCheck}
 use Rattle.flash.specs.Steps.{closing}
 use Rattle.header.specs.Checks.{tagsCheck, coverageCheck, headerCheck}
-use Rattle.header.specs.Lookup.{lookup}
+use Rattle.header.specs.Lookup.{lookupFrom, lookup}
 use Rattle.header.specs.Numbers.{numberAt}
 use Rattle.header.specs.Walk.{stepAt, walkIn, walk}
 use Rattle.slots.specs.Exchange.{source, target, nextFlag, exchangeStep}
@@ -19,7 +19,7 @@ use Rattle.loader.specs.Decisions.{stagedDecision, decision, nextStep}
 use Rattle.paper_cases.specs.Cases.{Case, cases, answerTo, Proved}
 
 answered : map (λ (c : Case). answerTo (c .input)) cases ≡ map (λ (c : Case). c .says) cases
-unfolding numberAt stepAt walkIn walk lookup tagsCheck coverageCheck headerCheck
+unfolding numberAt stepAt walkIn walk lookupFrom lookup tagsCheck coverageCheck headerCheck
     same all placed disjoint geometryCheck closing sound offset bytesAt imageOf half flagAt flag tab flags wellFormed lowestUnfinished
     soundWith source target nextFlag withHalf flagStep flagStepOf exchangeStep stagedDecision decision nextStep
 answered = refl

@@ -12,6 +12,7 @@ use Rattle.header.specs.Numbers.{numberAt}
 use Rattle.header.specs.Walk.{walk}
 use Rattle.header.specs.declared.tags.Lookup.the-variants.{Found}
 use Rattle.header.specs.declared.tags.Tag.{Tag}
+use Rattle.header.specs.declared.tags.Wanted.the-variants.{Kind}
 use Rattle.writer.specs.Custom.{named, tagsOf}
 use Rattle.writer.specs.Layout.{leBytes, tagBytes, coveredPart}
 use Rattle.writer.specs.declared.Fields.{Fields}
@@ -131,11 +132,11 @@ module _ (fields : Fields) (firmware custom hint digest signature : List ℕ) wh
           ∙ rw (length-le, timestamp-laid .walked, length-le, type-laid .walked, length-le)
           (rw (run-walked i 34 custom hint-on (type-laid .after) (let r = run .size in omega arith) (run .whole), last-walked))
 
-      looked-up : (k : ℕ) → lookup i k ≡ firstIn k (writtenTags custom) 25
-      looked-up k = long-enough i k long ∙ ap (first k) walked
+      looked-up : (k : ℕ) → lookup i k ≡ firstIn (Kind k) (writtenTags custom) 25
+      looked-up k = long-enough i k long ∙ ap (first (Kind k)) walked
 
       -- a named type that stands behind the run
-      past-run : (k : ℕ) → named k ≡ true → firstIn k (map (moved 34) (tagsOf custom) ++ lastTags (length custom)) 25 ≡ firstIn k (lastTags (length custom)) 25
+      past-run : (k : ℕ) → named k ≡ true → firstIn (Kind k) (map (moved 34) (tagsOf custom) ++ lastTags (length custom)) 25 ≡ firstIn (Kind k) (lastTags (length custom)) 25
       past-run k m = first-past k m (length custom) 34 (lastTags (length custom)) 0 (tagsOf custom) 25 (run .whole)
 
       reads : {p q k : ℕ} {c rest : List ℕ} → Laid i 256 p q k c rest → lookup i k ≡ Found (tagOf k p (length c)) → Reads i k p c

@@ -87,7 +87,7 @@ module _ (s : List ℕ) (b : (p : ℕ) → byteAt s p < 256) where
   unfolding numberAt
   two-bytes p = omega (arith, b p, b (p + 1))
 
-  made-tag : (p : ℕ) (t : Tag) → Good s (length s) p t → t .at ≡ p + 4 → named (t .kind) ≡ false → Made (drop (t .at + t .len) s) → Made (drop p s)
+  made-tag : (p : ℕ) (t : Tag) → Good s (length s) p t → t .at ≡ p + 4 → named (t .kind) ≡ false → Made (drop (t .next) s) → Made (drop p s)
   unfolding encode
   made-tag p t g a unnamed m =
       let place : t .at - 4 ≡ p = omega arith in
@@ -111,7 +111,7 @@ module _ (s : List ℕ) (b : (p : ℕ) → byteAt s p < 256) where
         allowed = R.one {e = e} ok (m .allowed);
         same =
             tag-bytes s b p (t .len) size (omega (arith, g .inside))
-            ∙ rw (kind, ← a) (ap (λ (r : List ℕ). tagBytes (numberAt 2 s p) (take (t .len) (drop (t .at) s)) ++ r) (m .same));
+            ∙ rw (kind, ← a, ← g .leads) (ap (λ (r : List ℕ). tagBytes (numberAt 2 s p) (take (t .len) (drop (t .at) s)) ++ r) (m .same));
       }
 
   made : wellFormed (length s) 0 (tagsOf s) ≡ true → Made s
@@ -123,8 +123,8 @@ module _ (s : List ℕ) (b : (p : ℕ) → byteAt s p < 256) where
       record { entries = []; allowed = R.none; same = drop-of-length-le s {i = p} (omega arith) })
       (λ p q l m ih h. never (sym h ∙ gap s (length s) p q (omega arith) l))
       (λ p t g ih h.
-      let ts : List Tag = walk s (length s) (t .at + t .len) .tags in
-      let a : eqb (t .at) (p + 4) ≡ true = and-left _ (not (named (t .kind)) && wellFormed (length s) (t .at + t .len) ts) h in
+      let ts : List Tag = walk s (length s) (t .next) .tags in
+      let a : eqb (t .at) (p + 4) ≡ true = and-left _ (not (named (t .kind)) && wellFormed (length s) (t .next) ts) h in
       made-tag p t g (eqb-true _ _ a) (head-custom (length s) p t ts h) (ih (rest-whole (length s) p t ts h)))
       0
 

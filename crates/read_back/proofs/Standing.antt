@@ -124,7 +124,8 @@ module _ (i : List ℕ) (o : ℕ) (s rest : List ℕ) (stands : drop o i ≡ s +
       let m : o + p + 2 ≡ o + (p + 2) = omega arith in
       let len : numberAt 2 i (o + p + 2) ≡ numberAt 2 s (p + 2) = rw m (number-in 2 (p + 2) (omega (arith, g .inside))) in
       let n : o + p + 4 ≡ o + (p + 4) = omega arith in
-      let tag : tagAt i (o + p) ≡ moved o (tagAt s p) = rw (kind, len, n) in
+      let on : o + (p + 4) + numberAt 2 s (p + 2) ≡ o + (p + 4 + numberAt 2 s (p + 2)) = omega arith in
+      let tag : tagAt i (o + p) ≡ moved o (tagAt s p) = rw (kind, len, n, on) in
       let low : byteAt i (o + p) ≡ byteAt s p = byte-in p (omega (arith, g .inside)) in
       step-met i 256 (o + p) (omega (arith, g .inside)) (λ f. g .unpadded (rw place (sym low ∙ f)))
       (λ z. g .typed (ap (λ (t : Tag). t .kind) is ∙ sym kind ∙ z))
@@ -152,19 +153,18 @@ module _ (i : List ℕ) (o : ℕ) (s rest : List ℕ) (stands : drop o i ≡ s +
 
       at-tag :
           (p : ℕ) (t : Tag) → Good s (length s) p t →
-          (wellFormed (length s) (t .at + t .len) (walk s (length s) (t .at + t .len) .tags) ≡ true →
-          walk i 256 (o + (t .at + t .len)) ≡
-          prefixed (map (moved o) (walk s (length s) (t .at + t .len) .tags)) (walk i 256 (o + length s))) →
-          wellFormed (length s) p (t ∷ walk s (length s) (t .at + t .len) .tags) ≡ true →
+          (wellFormed (length s) (t .next) (walk s (length s) (t .next) .tags) ≡ true →
+          walk i 256 (o + t .next) ≡
+          prefixed (map (moved o) (walk s (length s) (t .next) .tags)) (walk i 256 (o + length s))) →
+          wellFormed (length s) p (t ∷ walk s (length s) (t .next) .tags) ≡ true →
           walk i 256 (o + p) ≡
-          prefixed (moved o t ∷ map (moved o) (walk s (length s) (t .at + t .len) .tags)) (walk i 256 (o + length s))
+          prefixed (moved o t ∷ map (moved o) (walk s (length s) (t .next) .tags)) (walk i 256 (o + length s))
       at-tag p t g ih b =
-          let r : List Tag = walk s (length s) (t .at + t .len) .tags in
-          let a : eqb (t .at) (p + 4) ≡ true = and-left _ (not (named (t .kind)) && wellFormed (length s) (t .at + t .len) r) b in
-          let c : wellFormed (length s) (t .at + t .len) r ≡ true =
+          let r : List Tag = walk s (length s) (t .next) .tags in
+          let a : eqb (t .at) (p + 4) ≡ true = and-left _ (not (named (t .kind)) && wellFormed (length s) (t .next) r) b in
+          let c : wellFormed (length s) (t .next) r ≡ true =
           and-right (not (named (t .kind))) _ (and-right (eqb (t .at) (p + 4)) _ b) in
-          let m : o + t .at + t .len ≡ o + (t .at + t .len) = omega arith in
-          walk-step i 256 (o + p) ∙ ap (onStep (walk i 256)) (step-in p t g (eqb-true _ _ a)) ∙ rw m (ap (meets (moved o t)) (ih c))
+          walk-step i 256 (o + p) ∙ ap (onStep (walk i 256)) (step-in p t g (eqb-true _ _ a)) ∙ ap (meets (moved o t)) (ih c)
 
   -- the content of a tag of the run
   pub content-in : (t : Tag) → t .at + t .len ≤ length s → contentAt i (moved o t) ≡ contentAt s t

@@ -19,11 +19,11 @@ use Rattle.writer.specs.declared.Fields.{Fields}
 
 -- the tag of type k that starts at place p and has n bytes of content
 abbrev pub tagOf : ℕ → ℕ → ℕ → Tag
-tagOf k p n = record { kind = k; at = p + 4; len = n }
+tagOf k p n = record { kind = k; at = p + 4; len = n; next = p + 4 + n }
 
 -- a tag, o bytes further on
 abbrev pub moved : ℕ → Tag → Tag
-moved o t = record { kind = t .kind; at = o + t .at; len = t .len }
+moved o t = record { kind = t .kind; at = o + t .at; len = t .len; next = o + t .next }
 
 -- the tags of a written header in their order, with a run of custom tags
 abbrev pub writtenTags : List ℕ → List Tag

@@ -43,7 +43,7 @@ module _ (s : List ℕ) (e p : ℕ) where
   at-padding : {n : ℕ} → p < e → stepAt s e p ≡ Padding n → wellFormedFrom s e p ≡ false
   at-padding {n} h q = let l = on s e p q in step-of q ∙ gap s e p n h (l .0)
 
-  at-tag : {t : Tag} → stepAt s e p ≡ Met t → wellFormedFrom s e p ≡ (not (named (t .kind)) && wellFormedFrom s e (t .at + t .len))
+  at-tag : {t : Tag} → stepAt s e p ≡ Met t → wellFormedFrom s e p ≡ (not (named (t .kind)) && wellFormedFrom s e (t .next))
   unfolding wellFormed
   at-tag {t} q =
       let a : t .at ≡ p + 4 = ap (λ (t : Tag). t .at) (step-tag s e p q) in
@@ -68,5 +68,5 @@ module _ (s : List ℕ) (p : ℕ) (size : length s ≤ 82) (as-all : wellFormedF
   pub has-named : {t : Tag} → stepAt s (length s) p ≡ Met t → named (t .kind) ≡ true → 27 ≡ customCheck s
   has-named q n = ill (at-tag s (length s) p q ∙ simp n)
 
-  pub one-further : {t : Tag} → stepAt s (length s) p ≡ Met t → named (t .kind) ≡ false → wellFormedFrom s (length s) (t .at + t .len) ≡ wellFormed (length s) 0 (tagsOf s)
+  pub one-further : {t : Tag} → stepAt s (length s) p ≡ Met t → named (t .kind) ≡ false → wellFormedFrom s (length s) (t .next) ≡ wellFormed (length s) 0 (tagsOf s)
   one-further q n = sym (at-tag s (length s) p q ∙ simp n) ∙ as-all

@@ -19,7 +19,7 @@ tagsOf run = walk run (length run) 0 .tags
 -- whether tags stand one right behind the other from place p up to place e, none of a named type
 unfoldable pub wellFormed : ℕ → ℕ → List Tag → Bool
 wellFormed e p [] = eqb p e
-wellFormed e p (t ∷ ts) = eqb (t .at) (p + 4) && (not (named (t .kind)) && wellFormed e (t .at + t .len) ts)
+wellFormed e p (t ∷ ts) = eqb (t .at) (p + 4) && (not (named (t .kind)) && wellFormed e (t .next) ts)
 
 -- 26: over 82 bytes; 27: ill-formed
 unfoldable pub customCheck : List ℕ → ℕ

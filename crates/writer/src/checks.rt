@@ -36,7 +36,7 @@ fn check_custom(run: &[u8]) -> u32
                 if is_named(t.kind) {
                     return 27;
                 }
-                p = t.at + t.len;
+                p = t.next;
             }
             WalkStep::Padding(_) => return 27,
             WalkStep::Stop(_) => return 27,

@@ -5,6 +5,7 @@ static const char *const hashed[] = { "0", "12", NULL };
 static const char *const verified[] = { "0", "10", "11", "12", "13", "14", "15", "16", "17", "18", "30", NULL };
 static const char *const versions[] = { "0", "10", "11", "12", "13", "14", "15", "16", "30", NULL };
 static const char *const found[] = { "0", "10", "13", "25", NULL };
+static const char *const listed[] = { "0", "10", "13", "25", "31", NULL };
 static const char *const to_sign[] = { "0", "12", "26", "27", NULL };
 static const char *const written[] = { "0", "10", "12", "26", "27", NULL };
 static const char *const placed[] = { "0", "1", "2", "3", "4", NULL };
@@ -31,6 +32,7 @@ const entry entries[] = {
     { "frondicare_digest_of_two", call_digest_of_two, hashed },
     { "frondicare_verify", call_verify, verified },
     { "frondicare_find_tag", call_find_tag, found },
+    { "frondicare_next_tag", call_next_tag, listed },
     { "frondicare_version_of", call_version_of, versions },
     { "frondicare_digest_to_sign", call_digest_to_sign, to_sign },
     { "frondicare_write_header", call_write_header, written },

@@ -22,6 +22,7 @@ void call_digest(void);
 void call_digest_of_two(void);
 void call_verify(void);
 void call_find_tag(void);
+void call_next_tag(void);
 void call_version_of(void);
 void call_digest_to_sign(void);
 void call_write_header(void);

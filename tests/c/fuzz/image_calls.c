@@ -70,3 +70,47 @@ void call_find_tag(void)
         fail("type %04x of %zu bytes: refused, with a place", type, h.len);
     same_number(tag.number, expected.number);
 }
+
+/* Where a lookup goes on after some tags. */
+static size_t start_in(readable header)
+{
+    size_t from = FRONDICARE_FIRST_TAG, tags = up_to(8);
+    for (; tags > 0; tags--) {
+        frondicare_listed_tag tag = plain_next_tag(header.at, header.len, from, true, 0);
+        if (tag.number != 0)
+            return from;
+        from = tag.next;
+    }
+    return from;
+}
+
+/* Such a place; one of the tags' places, also within a tag; just outside of these; one that is a place of the tags if
+ * it is cut to 8, 16 or 32 bits; or anywhere. */
+static size_t any_start(readable header)
+{
+    size_t place = FRONDICARE_FIRST_TAG + up_to(HEADER - FRONDICARE_FIRST_TAG);
+    if (percent(60))
+        return start_in(header);
+    if (percent(60))
+        return place;
+    if (percent(30))
+        return place + ((size_t)1 << (percent(50) ? 32 : percent(50) ? 16 : 8));
+    return percent(70) ? up_to(HEADER + 20) : (size_t)random_next();
+}
+
+void call_next_tag(void)
+{
+    readable h = any_image();
+    size_t from = any_start(h);
+    bool any = percent(50);
+    uint16_t type = any_type(h);
+    frondicare_listed_tag tag = frondicare_next_tag(h.at, h.len, from, any, type);
+    frondicare_listed_tag expected = plain_next_tag(h.at, h.len, from, any, type);
+    if (tag.type != expected.type || tag.at != expected.at || tag.len != expected.len || tag.next != expected.next)
+        fail("type %04x (any %d) from %zu of %zu: %04x at %zu, length %zu, next %zu, not %04x, %zu, %zu, %zu", type, any,
+             from, h.len, tag.type, tag.at, tag.len, tag.next, expected.type, expected.at, expected.len,
+             expected.next);
+    if (tag.number != 0 && (tag.type != 0 || tag.at != 0 || tag.len != 0 || tag.next != 0))
+        fail("type %04x from %zu of %zu bytes: refused, with a tag", type, from, h.len);
+    same_number(tag.number, expected.number);
+}

@@ -1,6 +1,6 @@
 //! Entries on messages, headers and images.
 use crate::slices::{to_read, to_write};
-use frondicare_tests::entries::{Tag, Version};
+use frondicare_tests::entries::{ListedTag, Tag, Version};
 use frondicare_tests::writer::{Fields, Parts};
 use frondicare_tests::{header, sha256, writer};
 
@@ -49,6 +49,20 @@ unsafe extern "C" fn plain_find_tag(header: *const u8, header_len: usize, kind: 
     match header::find_tag(to_read(header, header_len), kind) {
         Ok(header::Tag { at, len, .. }) => Tag { number: 0, at, len },
         Err(number) => Tag { number, at: 0, len: 0 },
+    }
+}
+
+#[no_mangle]
+unsafe extern "C" fn plain_next_tag(
+    header: *const u8,
+    header_len: usize,
+    from: usize,
+    any: bool,
+    kind: u16,
+) -> ListedTag {
+    match header::next_tag(to_read(header, header_len), from, (!any).then_some(kind)) {
+        Ok(header::Tag { kind, at, len, next }) => ListedTag { number: 0, kind, at, len, next },
+        Err(number) => ListedTag::refused(number),
     }
 }
 

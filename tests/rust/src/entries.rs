@@ -13,6 +13,23 @@ pub struct Tag {
     pub len: usize,
 }
 
+/// The same with the type and with where the next lookup goes on.
+#[repr(C)]
+#[derive(Clone, Copy, Debug, PartialEq)]
+pub struct ListedTag {
+    pub number: u32,
+    pub kind: u16,
+    pub at: usize,
+    pub len: usize,
+    pub next: usize,
+}
+
+impl ListedTag {
+    pub fn refused(number: u32) -> ListedTag {
+        ListedTag { number, kind: 0, at: 0, len: 0, next: 0 }
+    }
+}
+
 /// The version, or a number and 0.
 #[repr(C)]
 #[derive(Clone, Copy, Debug, PartialEq)]
@@ -32,6 +49,7 @@ extern "C" {
     ) -> u32;
     pub fn frondicare_verify(image: *const u8, image_len: usize, signature_ok: bool) -> u32;
     pub fn frondicare_find_tag(header: *const u8, header_len: usize, kind: u16) -> Tag;
+    pub fn frondicare_next_tag(header: *const u8, header_len: usize, from: usize, any: bool, kind: u16) -> ListedTag;
     pub fn frondicare_version_of(image: *const u8, image_len: usize) -> Version;
     pub fn frondicare_most_steps(sector_count: usize) -> u32;
     pub fn frondicare_add_step(counts: *mut Counts, op: u32) -> u32;

@@ -34,6 +34,12 @@ pub fn find_tag(header: &[u8], kind: u16) -> Tag {
     unsafe { frondicare_find_tag(header.as_ptr(), header.len(), kind) }
 }
 
+/// Of any type where that is None. The type's argument is then one that must not count.
+pub fn next_tag(header: &[u8], from: usize, kind: Option<u16>) -> ListedTag {
+    let ignored = from as u16;
+    unsafe { frondicare_next_tag(header.as_ptr(), header.len(), from, kind.is_none(), kind.unwrap_or(ignored)) }
+}
+
 pub fn version_of(image: &[u8]) -> Version {
     unsafe { frondicare_version_of(image.as_ptr(), image.len()) }
 }

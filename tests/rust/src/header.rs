@@ -1,9 +1,11 @@
-//! The header of document 01, with R-2 of document 02, read plainly: what the library is compared with, and what its
-//! speed is measured against.
+//! The header of document 01, with of document 02, read plainly: what the library is compared with, and
+//! what its speed is measured against.
 //! An `Err` holds a number of the paper's table "Numbers given back".
 use crate::sha256;
 
 pub const SIZE: usize = 256;
+/// The place of the first tag.
+pub const FIRST: usize = 8;
 pub const VERSION: u16 = 0x0001;
 pub const TIMESTAMP: u16 = 0x0002;
 pub const DIGEST: u16 = 0x0003;
@@ -17,12 +19,13 @@ pub const MANDATORY: [(u16, usize); 5] =
 
 pub const MARK: [u8; 4] = [0x57, 0x4f, 0x4c, 0x46];
 
-/// A tag: its type (`type` itself is a keyword), and the place and length of its content.
-#[derive(Clone, Copy)]
+/// A tag: its type (`type` itself is a keyword), the place and length of its content, and where the walk goes on.
+#[derive(Clone, Copy, Debug, PartialEq)]
 pub struct Tag {
     pub kind: u16,
     pub at: usize,
     pub len: usize,
+    pub next: usize,
 }
 
 /// The walk over a header's tags.
@@ -46,23 +49,44 @@ impl Iterator for Tags<'_> {
             return Some(Err(13));
         }
         self.place = at + len;
-        Some(Ok(Tag { kind, at, len }))
+        Some(Ok(Tag { kind, at, len, next: self.place }))
     }
 }
 
 fn tags(header: &[u8; SIZE]) -> Tags<'_> {
-    Tags { header, place: 8 }
+    Tags { header, place: FIRST }
 }
 
-/// The first tag of a type.
-pub fn find_tag(header: &[u8], kind: u16) -> Result<Tag, u32> {
-    for tag in tags(header.first_chunk().ok_or(10u32)?) {
+/// All tags in one walk, and the number that it ends with.
+pub fn all_tags(header: &[u8; SIZE]) -> (Vec<Tag>, u32) {
+    let mut list = vec![];
+    for tag in tags(header) {
+        match tag {
+            Ok(tag) => list.push(tag),
+            Err(number) => return (list, number),
+        }
+    }
+    (list, 25)
+}
+
+/// The first tag from a place on, of a type or, where that is None, of any.
+pub fn next_tag(header: &[u8], from: usize, kind: Option<u16>) -> Result<Tag, u32> {
+    let header = header.first_chunk().ok_or(10u32)?;
+    if !(FIRST..=SIZE).contains(&from) {
+        return Err(31);
+    }
+    for tag in (Tags { header, place: from }) {
         let tag = tag?;
-        if tag.kind == kind {
+        if kind.unwrap_or(tag.kind) == tag.kind {
             return Ok(tag);
         }
     }
     Err(25)
+}
+
+/// The first tag of a type.
+pub fn find_tag(header: &[u8], kind: u16) -> Result<Tag, u32> {
+    next_tag(header, FIRST, Some(kind))
 }
 
 /// The content of the first tag of a type, empty where there is none.

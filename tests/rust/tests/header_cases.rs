@@ -37,6 +37,12 @@ fn answer(input: &mut Input) -> String {
     let buffer_len = input.number(2) as usize;
     let text = match command {
         b'F' => text_or_refusal(header::find_tag(input.bytes(a), kind), |tag| format!("{} {}", tag.at, tag.len)),
+        b'L' => {
+            let wanted = (!signature_ok).then_some(kind);
+            text_or_refusal(header::next_tag(input.bytes(a), buffer_len, wanted), |tag| {
+                format!("{} {} {} {}", tag.kind, tag.at, tag.len, tag.next)
+            })
+        }
         b'W' => hex(header::view(input.bytes(a), kind)),
         b'V' => text_or_refusal(header::verify(input.bytes(a), signature_ok), |()| "PASS".to_string()),
         b'N' => text_or_refusal(header::version(input.bytes(a)), |version| version.to_string()),

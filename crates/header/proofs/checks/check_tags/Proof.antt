@@ -10,7 +10,7 @@ use Rattle.header.specs.Walk.{walk}
 use Rattle.header.proofs.OneWalk.{checked, all-checked, checked-stop, checked-padding, checked-tag}
 use Rattle.header.proofs.Order.{ordered}
 use Rattle.header.proofs.Refusals.{first-one}
-use Rattle.header.proofs.Walk.{Good, on}
+use Rattle.header.proofs.Walk.{on}
 use Rattle.header.proofs.checks.check_tags.Statement.{statement}
 use Rattle.header.proofs.checks.check_tags.Tie as tie
 
@@ -49,26 +49,19 @@ loop-again c =
     let l = c .before .before .before in
     sym (checked-padding _ _ _ (sym (l .walk-step .ensures) ∙ c .before .next .given .1)) ∙ l .before .loop .inv
 
-met :
-    (c : tie.After-struct-known Inv-loop μ-loop) →
-    let l = c .before .before .before .before .before .before in
-    Good (l .before .before .args .header .now) 256 (l .loop .p) (c .before .before .before .t .given .0 .0)
-met c = on _ _ _ (sym (c .before .before .before .before .before .walk-step .ensures) ∙ c .before .before .before .t .given .1)
-
-add-p : tie.Need-add-p Inv-loop μ-loop
-add-p c = omega (arith, met c)
-
 loop-less-2 : tie.Need-loop-less-2 Inv-loop μ-loop
-loop-less-2 c = omega (arith, met c)
+loop-less-2 c =
+    let t = c .before .before in
+    omega (arith, on _ _ _ (sym (t .before .before .walk-step .ensures) ∙ t .t .given .1))
 
 loop-again-2 : tie.Need-loop-again-2 Inv-loop μ-loop
 loop-again-2 c =
-    let t = c .before .before .before in
+    let t = c .before .before in
     let l = t .before .before in
-    rw (c .before .seen-after .ensures)
+    rw (c .seen-after .ensures)
     (sym (checked-tag _ _ (l .before .loop .seen) (sym (l .walk-step .ensures) ∙ t .t .given .1)) ∙ l .before .loop .inv)
 
 pub check-tags-spec : {M : Type 1} → statement M
 check-tags-spec =
     tie.close (tie.spec Inv-loop μ-loop loop-holds (λ c κs. search needs) (λ c. search needs) returns (λ c κs. search needs) returns-2
-    (λ c. search needs) loop-less loop-again (λ c. search needs) (λ c κs. search needs) add-p loop-less-2 loop-again-2)
+    (λ c. search needs) loop-less loop-again (λ c. search needs) (λ c κs. search needs) loop-less-2 loop-again-2)

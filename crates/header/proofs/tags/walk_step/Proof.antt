@@ -69,4 +69,4 @@ pub walk-step-spec : {M : Type 1} → statement M
 walk-step-spec =
     tie.close (tie.spec returns (λ c κs. search needs) (λ c. search needs) returns-2 (λ c. search needs) returns-3
     (λ c κs. search needs) returns-4 (λ c. search needs) (λ c. search needs) (λ c κs. search needs) (λ c. search needs)
-    (λ c. search needs) returns-5 returns-6)
+    (λ c. search needs) returns-5 (λ c. search needs) returns-6)

@@ -4,7 +4,7 @@ use native.Mathlib.Omega.{arith}
 use lib.ListN.{length}
 use borrow.Author.Needs.{needs}
 use borrow.Author.Tests.{lt-ltb}
-use Rattle.header.proofs.Walk.{Good, on}
+use Rattle.header.proofs.Walk.{on}
 use Rattle.writer.specs.Custom.{tagsOf, wellFormed, customCheck}
 use Rattle.writer.proofs.Run.{wellFormedFrom, well-formed, ends-early, has-padding, has-named, one-further}
 use Rattle.writer.proofs.checks.check_custom.Statement.{statement}
@@ -32,29 +32,20 @@ returns-2 c =
     has-named _ (l .loop .p) (l .before .if1 .left) (l .loop .inv .1) (sym (w .walk-step .ensures) ∙ t .t .given .1)
     (sym (i .is-named .ensures) ∙ c .if2 .taken)
 
-met :
-    (c : tie.After-struct-known Inv-loop μ-loop) →
-    let run = c .before .before .before .before .before .before .before .before .before .before .before .args .run .now in
-    Good run (length (c .before .before .before .before .before .before .before .before .before .before .before .args .run .now)) (c .before .before .before .before .before .before .before .before .loop .p) (c .before .before .before .before .t .given .0 .0)
-met c =
-    let t = c .before .before .before .before in
-    on _ _ _ (sym (t .before .before .walk-step .ensures) ∙ t .t .given .1)
-
-add-p : tie.Need-add-p Inv-loop μ-loop
-add-p c = omega (arith, met c)
-
 loop-less : tie.Need-loop-less Inv-loop μ-loop
-loop-less c = omega (arith, met c)
+loop-less c =
+    let t = c .before .before .before in
+    omega (arith, on _ _ _ (sym (t .before .before .walk-step .ensures) ∙ t .t .given .1))
 
 loop-again : tie.Need-loop-again Inv-loop μ-loop
 loop-again c =
-    let i = c .before .before in
+    let i = c .before in
     let t = i .before .before in
     let w = t .before .before in
-    let l = w .before .before in (
-      met c .inside,
-      one-further _ (l .loop .p) (l .before .if1 .left) (l .loop .inv .1) (sym (w .walk-step .ensures) ∙ t .t .given .1)
-          (sym (i .is-named .ensures) ∙ c .before .if2 .left),
+    let l = w .before .before in
+    let met = sym (w .walk-step .ensures) ∙ t .t .given .1 in (
+      omega (arith, on _ _ _ met),
+      one-further _ (l .loop .p) (l .before .if1 .left) (l .loop .inv .1) met (sym (i .is-named .ensures) ∙ c .if2 .left),
     )
 
 returns-3 : tie.Need-returns-3 Inv-loop μ-loop
@@ -79,4 +70,4 @@ returns-5 c =
 pub check-custom-spec : {M : Type 1} → statement M
 check-custom-spec =
     tie.close (tie.spec Inv-loop μ-loop returns loop-holds (λ c κs. search needs) (λ c. search needs) (λ c κs. search needs) returns-2
-    add-p loop-less loop-again (λ c. search needs) returns-3 (λ c. search needs) returns-4 returns-5)
+    loop-less loop-again (λ c. search needs) returns-3 (λ c. search needs) returns-4 returns-5)
