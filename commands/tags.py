@@ -31,22 +31,20 @@ def listed(data):
     return [tuple(map(int, line.split())) for line in tags], 0 if end == "END" else int(end)
 
 
-def unsigned(tags):
-    """Those that the digest doesn't cover, so that anybody may have put them there: all behind the first digest tag, or
-    all where there is none. Of a signature it is not asked."""
-    digest = min((at for kind, at, _ in tags if kind == DIGEST), default=0)
-    return [(kind, at, length) for kind, at, length in tags if at > digest and kind != SIGNATURE]
+def covered(tags):
+    """Of each tag, whether the digest covers it: no behind the first digest tag, or where there is none, so that
+    anybody may have put it there. Of that digest and of signatures it is not asked."""
+    first = min((at for kind, at, _ in tags if kind == DIGEST), default=0)
+    return {(kind, at, length): "-" if kind == SIGNATURE or at == first else "yes" if at < first else "no"
+            for kind, at, length in tags}
 
 
 def explained(data, tags):
     """A line for each tag, under a line with the names of the columns."""
-    behind, first = unsigned(tags), min((tag[1] for tag in tags if tag[0] == DIGEST), default=None)
     yield "type    place  length  covered  name           content"
-    for tag in tags:
-        kind, at, length = tag
-        covered = "no" if tag in behind else "-" if kind == SIGNATURE or at == first else "yes"
+    for (kind, at, length), word in covered(tags).items():
         text = content_text(kind, data[at:at + length])
-        yield f"0x{kind:04x}  {at:5}  {length:6}  {covered:7}  {NAMES.get(kind, 'custom'):13}  {text}"
+        yield f"0x{kind:04x}  {at:5}  {length:6}  {word:7}  {NAMES.get(kind, 'custom'):13}  {text}"
 
 
 def run(given):

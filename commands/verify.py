@@ -49,7 +49,7 @@ def whose(hint, key):
 def described(fields, data, key):
     """The header for a person. Of a custom tag or a hint that the digest doesn't cover, it is said."""
     listed, _ = tags.listed(data)
-    covered = {tag: "" for tag in listed} | {tag: f" {UNSIGNED}" for tag in tags.unsigned(listed)}
+    marks = {tag: f" {UNSIGNED}" if word == "no" else "" for tag, word in tags.covered(listed).items()}
     size, hint = int(fields["size"]), fields.get("hint")
     behind = len(data) - 256 - size
     yield f"version    {fields['version']}"
@@ -57,8 +57,8 @@ def described(fields, data, key):
     yield f"type       {fields['type']}"
     yield f"firmware   {size} bytes" + (f"; the {behind} bytes behind it do not count" if behind else "")
     for tag in [tag for tag in listed if tag[0] not in NAMES]:
-        yield f"custom     0x{tag[0]:04x}{covered[tag]} {in_hex(data[tag[1]:tag[1] + tag[2]])}"
-    hinted = next((covered[tag] for tag in listed if tag[0] == HINT and hint), "")
+        yield f"custom     0x{tag[0]:04x}{marks[tag]} {in_hex(data[tag[1]:tag[1] + tag[2]])}"
+    hinted = next((marks[tag] for tag in listed if tag[0] == HINT and hint), "")
     yield f"key hint   {hint or 'none of 32 bytes'}{whose(hint, key)}{hinted}"
     yield f"digest     {fields['digest']}"
 

@@ -7,7 +7,7 @@ use Rattle.header.specs.declared.tags.Lookup.the-variants.{Found, Refused}
 use Rattle.header.specs.declared.tags.Wanted.{Wanted}
 use Rattle.header.specs.declared.tags.Wanted.the-variants.{Any, Kind}
 use Rattle.frondicare.specs.declared.FlatVersion.{FlatVersion}
-use Rattle.frondicare.specs.declared.tag_entries.ListedTag.{ListedTag}
+use Rattle.frondicare.specs.declared.list_entries.ListedTag.{ListedTag}
 use Rattle.frondicare.specs.declared.TagPlace.{TagPlace}
 
 -- the number 0 and where the tag's content lies, or document 01's number and zeros

@@ -1,10 +1,10 @@
 // The C library: entries on numbers and byte slices only, which decide nothing themselves.
 // include/frondicare.h declares them for C.
 mod flash_entries;
+mod list_entries;
 mod loader_entries;
 mod run_entries;
 mod state_entries;
-mod tag_entries;
 
 ghost use mathlib.Core.Path.{_≡_};
 ghost use mathlib.Core.List.{_++_};

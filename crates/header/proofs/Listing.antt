@@ -3,11 +3,9 @@
 use Prim.Native.Nat.{ℕ, zero, suc, _+_, _-_, _*_, _<_, _≤_}
 use mathlib.Core.Bool.{Bool, true, false, cond}
 use mathlib.Core.List.{List, [], _∷_}
-use mathlib.Core.Logic.{_⊎_, inl, inr}
 use mathlib.Core.Path.{_≡_, refl, sym, ap, _∙_}
 use native.Mathlib.Omega.{arith}
 use lib.ListN.{length}
-use borrow.Author.Tests.{lt-ltb, le-ltb}
 use Rattle.header.specs.Listing.{listing, TagsListed}
 use Rattle.header.specs.Lookup.{matches, first, lookupFrom, lookup, ofKind}
 use Rattle.header.specs.Walk.{Walk, walk}
@@ -15,7 +13,7 @@ use Rattle.header.specs.declared.tags.Lookup.the-variants.{Found, Refuse
 use Rattle.header.specs.declared.tags.Tag.{Tag}
 use Rattle.header.specs.declared.tags.Wanted.the-variants.{Any, Kind}
 use Rattle.header.specs.declared.tags.Wanted.{Wanted}
-use Rattle.header.proofs.Lookups.{stops, walked, found-from}
+use Rattle.header.proofs.Lookups.{stops, too-short, bad-start, walked, found-from}
 use Rattle.header.proofs.Walk.{Good, meets, step-end, walk-ind}
 
 -- a walk meets a tag in every four bytes at most
@@ -102,15 +100,6 @@ list-step h p v t l e =
     (ap (meets t)
     (rest 62 (t .next) (omega arith) (omega arith) (omega arith) ∙ sym (rest 63 (t .next) (omega arith) (omega arith) (omega arith))))
 
-refused-10 : (h : List ℕ) (p : ℕ) (v : Wanted) → length h < 256 → lookupFrom h p v ≡ Refused 10
-unfolding lookupFrom
-refused-10 h p v l = simp (lt-ltb (length h) 256 l)
-
-refused-31 : (h : List ℕ) (p : ℕ) (v : Wanted) → 256 ≤ length h → (p < 8) ⊎ (256 < p) → lookupFrom h p v ≡ Refused 31
-unfolding lookupFrom
-refused-31 h p v long (inl l) = simp (le-ltb (length h) 256 long, lt-ltb p 8 l)
-refused-31 h p v long (inr l) = simp (le-ltb (length h) 256 long, le-ltb p 8 (omega arith), lt-ltb 256 p l)
-
 -- a list of any type is the walk from its start
 any-listed : (h : List ℕ) (p : ℕ) → 256 ≤ length h → 8 ≤ p → p ≤ 256 → listing 63 h p Any ≡ walk h 256 p
 any-listed h p long a b = listed h Any long 63 p a b (omega arith) ∙ rw (any-wanted (walk h 256 p .tags))
@@ -120,8 +109,8 @@ unfolding lookup
 tags-listed =
     record {
       old = λ h k. refl;
-      short = refused-10;
-      outside = refused-31;
+      short = too-short;
+      outside = bad-start;
       «at-256» = λ h v long.
           walked h 256 v long (omega arith) (omega arith) ∙ stops h 256 256 v (step-end h 256 256 (omega arith));
       leads = λ h p v t e. let g = found-from h p v e .good in (g .starts, (g .leads, omega arith));

@@ -1,13 +1,14 @@
 -- Laws of a lookup: how it goes on from a step of the walk, and what is known of the tag that it finds.
 -- Assumes nothing.
-use Prim.Native.Nat.{ℕ, _≤_}
+use Prim.Native.Nat.{ℕ, _<_, _≤_}
 use mathlib.Core.Bool.{true, false}
 use mathlib.Core.List.{List, []}
+use mathlib.Core.Logic.{_⊎_, inl, inr}
 use mathlib.Core.Path.{_≡_, refl, ap, subst, _∙_}
 use native.Mathlib.Omega.{arith}
 use lib.Dec.{ltb}
 use lib.ListN.{length, length-take}
-use borrow.Author.Tests.{le-ltb, ltb-false}
+use borrow.Author.Tests.{lt-ltb, le-ltb, ltb-false}
 use Rattle.header.specs.Lookup.{matches, first, lookupFrom, lookup, beforeTag, coveredOf}
 use Rattle.header.specs.Walk.{stepAt, Walk, onStep, walk}
 use Rattle.header.specs.declared.tags.Lookup.the-variants.{Found, Refused}
@@ -56,11 +57,21 @@ found-good s e p v {t} =
     (λ b h. later (omega arith) (ih h)))
     p
 
--- a header that is long enough is walked, from a start that may be one
+-- the three ways in which a lookup begins: the header is too short, the start is none, or the walk from there
+pub too-short : (h : List ℕ) (p : ℕ) (v : Wanted) → length h < 256 → lookupFrom h p v ≡ Refused 10
+unfolding lookupFrom
+too-short h p v l = simp (lt-ltb (length h) 256 l)
+
+pub bad-start : (h : List ℕ) (p : ℕ) (v : Wanted) → 256 ≤ length h → (p < 8) ⊎ (256 < p) → lookupFrom h p v ≡ Refused 31
+unfolding lookupFrom
+bad-start h p v long (inl l) = simp (le-ltb (length h) 256 long, lt-ltb p 8 l)
+bad-start h p v long (inr l) = simp (le-ltb (length h) 256 long, le-ltb p 8 (omega arith), lt-ltb 256 p l)
+
 pub walked : (h : List ℕ) (p : ℕ) (v : Wanted) → 256 ≤ length h → 8 ≤ p → p ≤ 256 → lookupFrom h p v ≡ first v (walk h 256 p)
 unfolding lookupFrom
 walked h p v l a b = simp (le-ltb (length h) 256 l, le-ltb p 8 a, le-ltb 256 p b)
 
+-- the old lookup
 pub long-enough : (h : List ℕ) (k : ℕ) → 256 ≤ length h → lookup h k ≡ first (Kind k) (walk h 256 8)
 unfolding lookup
 long-enough h k l = walked h 8 (Kind k) l (omega arith) (omega arith)

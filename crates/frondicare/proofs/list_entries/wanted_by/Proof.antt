@@ -1,5 +1,5 @@
-use Rattle.frondicare.proofs.tag_entries.wanted_by.Statement.{statement}
-use Rattle.frondicare.proofs.tag_entries.wanted_by.Tie as tie
+use Rattle.frondicare.proofs.list_entries.wanted_by.Statement.{statement}
+use Rattle.frondicare.proofs.list_entries.wanted_by.Tie as tie
 
 returns : tie.Need-returns
 returns c = rw (c .if1 .taken)

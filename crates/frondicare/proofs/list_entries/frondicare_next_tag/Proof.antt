@@ -1,6 +1,6 @@
 use borrow.Author.Needs.{needs}
-use Rattle.frondicare.proofs.tag_entries.frondicare_next_tag.Statement.{statement}
-use Rattle.frondicare.proofs.tag_entries.frondicare_next_tag.Tie as tie
+use Rattle.frondicare.proofs.list_entries.frondicare_next_tag.Statement.{statement}
+use Rattle.frondicare.proofs.list_entries.frondicare_next_tag.Tie as tie
 
 returns : tie.Need-returns
 returns c = rw (← c .before .before .before .before .wanted-by .ensures, ← c .before .before .before .next-tag .ensures, c .before .t .given .1)
