@@ -1,5 +1,7 @@
 // A board in binary: document 01's record of 24 bytes, as the simulator takes it. Stored cases are boards one after
 // the other, each with a name, a head (the record is in it) and a flash; specs/Cases.antt says how they lie.
+#![tactic(auto)]
+
 ghost use Rattle.std.specs.Prelude.{◌-◌, ◌^◌, ◌≤◌, ◌<◌, min, cond, ◌≡◌, length};
 ghost use Rattle.header.specs.Numbers.{number_at};
 ghost use Rattle.board_records.specs.Boards.{geometry_in, boot_signed, update_signed};

@@ -1,6 +1,8 @@
 // Tests on bytes: whether two slices hold the same, and whether one holds a single value. Both go by
 // blocks: within one nothing is decided, so that the compiler compares many bytes at once; after it a
 // difference ends the work.
+#![tactic(auto)]
+
 ghost use Rattle.std.specs.Prelude.{◌≡◌, ◌≤◌, ◌<◌, length};
 ghost use Rattle.compare.specs.Compare.{same, all};
 ghost use Rattle.compare.specs.Blocks.{Within};

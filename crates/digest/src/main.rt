@@ -1,6 +1,8 @@
 // Prints the SHA-256 digest of the file that its first argument names, or of standard input, as
 // 64 hexadecimal digits; or REFUSE and document 01's number. What goes wrong with the file is said on
 // standard error, and nothing is printed.
+#![tactic(auto)]
+
 use files::fill;
 use libc::STDIN_FILENO;
 use sha256::{DigestAnswer, Hash};

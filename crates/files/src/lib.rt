@@ -1,5 +1,7 @@
 // Files that a program's arguments name. A read that fails is told from the end of a file, and what goes
 // wrong with a name is said on standard error.
+#![tactic(auto)]
+
 ghost use Rattle.io.specs.Counts.{IsPrefixLen};
 
 // How many bytes came, and whether a read failed.

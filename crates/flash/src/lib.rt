@@ -1,5 +1,7 @@
 // Flash as document 01 has it: the geometry of its three areas, and one step carried out on lent bytes.
 // Every public function is total: what it refuses, it answers with document 01's number.
+#![tactic(auto)]
+
 mod bytes;
 mod geometry;
 mod steps;

@@ -2,6 +2,8 @@
 // a line for each, held to the file stdout. tests/vectors/flash.py makes both files, the answers with
 // another implementation. A record is a name's length (1 byte), the name, the numbers that record.rt
 // lists, the patches' length (2 bytes) and the patches, which are laid over a flash of FF.
+#![tactic(auto)]
+
 mod record;
 
 ghost use Rattle.std.specs.Prelude.{◌<◌};

@@ -1,5 +1,7 @@
 // The C library: entries on numbers and byte slices only, which decide nothing themselves.
 // include/frondicare.h declares them for C.
+#![tactic(auto)]
+
 mod flash_entries;
 mod list_entries;
 mod loader_entries;

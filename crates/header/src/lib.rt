@@ -1,5 +1,7 @@
 // The 256-byte image header (document 01, "Header"): its tags, one of them looked up, and its checks.
 // Every public function is total: what it refuses, it answers with the papers' number.
+#![tactic(auto)]
+
 mod checks;
 mod number;
 mod tags;

@@ -3,6 +3,8 @@
 // another implementation. A record is a name's length (1 byte), the name, the numbers that record.rt
 // lists, the body (a header, an image or a firmware), a custom run, and for D and H a hint and a
 // signature.
+#![tactic(auto)]
+
 mod record;
 
 ghost use Rattle.std.specs.Prelude.{◌≤◌, ◌<◌};

@@ -1,5 +1,7 @@
 // Whether an image may be started (document 01, "Header" and "Numbers given back"): the header's
 // checks, then its digest, then the signature checker's answer.
+#![tactic(auto)]
+
 ghost use Rattle.std.specs.Prelude.{◌≡◌};
 ghost use Rattle.header.specs.Checks.{header_check};
 ghost use Rattle.image.specs.Verdict.{digest_check, verdict};

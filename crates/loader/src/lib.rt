@@ -2,6 +2,8 @@
 // and confirm, and whether it is mid-swap. They read the lent flash and change nothing; flash::apply_step
 // carries a step out.
 // Every public function is total: the geometry's numbers 1 to 4 first, then what document 01 says.
+#![tactic(auto)]
+
 mod answers;
 mod decisions;
 mod mid_swap;

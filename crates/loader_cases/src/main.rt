@@ -1,6 +1,8 @@
 // The cases of document 01's decisions: takes the stored cases of standard input one after the other and prints
 // a line for each, held to the file stdout. tests/vectors/loader.py makes both files, the answers with
 // another implementation.
+#![tactic(auto)]
+
 use board_records::{boot_signed, geometry, head, load, name, rest, update_signed};
 use flash::{Geometry, Step, apply_step};
 use header::byte_at;

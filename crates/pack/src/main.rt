@@ -4,6 +4,8 @@
 // the others are decimal numbers. Without a signature it prints the digest to sign, as 64 hexadecimal digits;
 // with one it writes the image, the header and then the firmware. Whatever is wrong is said on standard error,
 // and nothing is printed; where standard output itself fails, what was printed is no image.
+#![tactic(auto)]
+
 mod decimal;
 mod input;
 mod texts;

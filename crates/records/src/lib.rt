@@ -1,5 +1,7 @@
 // The binary records that programs over stored cases read. Nothing here refuses: what is not there
 // reads as zeros, or as the empty part.
+#![tactic(auto)]
+
 ghost use Rattle.std.specs.Prelude.{◌≡◌, length};
 ghost use Rattle.header.specs.Numbers.{number_at};
 ghost use Rattle.records.specs.Records.{part_of, first_bytes};

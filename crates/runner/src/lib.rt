@@ -2,6 +2,8 @@
 // and the run, which decides and does up to a number of steps and counts them in the caller's record.
 // Every public function is total. A refusal before the first step changes no byte and no counter; a run's later
 // one keeps the steps done.
+#![tactic(auto)]
+
 mod counts;
 mod one_step;
 mod standing;

@@ -1,6 +1,8 @@
 // The cases of document 01's bounded run: takes the stored cases of standard input one after the other and prints
 // two lines for each, held to the file stdout: the answer, then the counters and the digest of the flash.
 // tests/vectors/runner.py makes both files, the answers with another implementation.
+#![tactic(auto)]
+
 ghost use Rattle.loader.specs.Checks.{image_checks};
 ghost use Rattle.runner.specs.Runs.{run_of, Leaves};
 

@@ -1,4 +1,6 @@
 // SHA-256 (FIPS 180-4). The definitions in specs/ follow FIPS section by section.
+#![tactic(auto)]
+
 mod hash;
 mod message;
 mod output;

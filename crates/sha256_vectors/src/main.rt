@@ -1,5 +1,7 @@
 // FIPS 180-4's published examples, and every length from 0 to 200 of a pattern in one piece and in two:
 // a line each, held to the file stdout, which tests/vectors/sha256.py makes with another implementation.
+#![tactic(auto)]
+
 ghost use Rattle.std.specs.Prelude.{◌≡◌, ◌≤◌, length};
 
 use libc::STDOUT_FILENO;

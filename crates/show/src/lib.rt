@@ -1,5 +1,7 @@
 // What the programs print of an answer, each but `field` with a line end. No contract can say what is
 // written, so these have none beyond safety; stored output and tests/command hold them.
+#![tactic(auto)]
+
 use libc::STDOUT_FILENO;
 use sha256::DigestAnswer;
 

@@ -1,5 +1,7 @@
 // What the programs print of steps and of the answers that hold them, each with a line end. No contract can
 // say what is written, so these have none beyond safety; stored output holds them.
+#![tactic(auto)]
+
 use flash::Step;
 use libc::STDOUT_FILENO;
 use loader::Answer;

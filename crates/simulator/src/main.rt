@@ -1,5 +1,7 @@
 // Document 01's simulator. Reads a record of 24 bytes and the flash from standard input, runs with the number
 // 4096, and prints each step begun, then BOOT and the version of BOOT's image, or REFUSE and the number.
+#![tactic(auto)]
+
 ghost use Rattle.loader.specs.Checks.{image_checks};
 ghost use Rattle.runner.specs.Runs.{run_for, EndsWith};
 ghost use Rattle.simulator.specs.Input.{simulated};

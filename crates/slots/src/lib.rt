@@ -1,5 +1,7 @@
 // What the loader reads of a flash: its slots' images and trailers, and the flags in UPDATE's trailer.
 // Every public function is total: the geometry's numbers 1 to 4 first, then what document 01 says.
+#![tactic(auto)]
+
 mod answers;
 mod exchanges;
 mod flags;

@@ -1,5 +1,7 @@
 // Lists the tags of the header on standard input, of which it reads 256 bytes: type, content's place and length in
 // decimal, a line for each tag, in their order. The last line is END where the list is whole, or the papers' number.
+#![tactic(auto)]
+
 ghost use Rattle.std.specs.Prelude.{◌≡◌};
 ghost use Rattle.tags.specs.Listed.{end_of};
 

@@ -3,6 +3,8 @@
 // IMAGE names a file, and the word is the signature checker's answer. It prints PASS, or REFUSE and document 01's
 // number; then, where the header passes its checks (10 to 16, 30), what the header says, a line for each field.
 // Whatever is wrong with the arguments or the file is said on standard error, and nothing is printed.
+#![tactic(auto)]
+
 mod summary;
 
 ghost use Rattle.io.specs.Counts.{IsPrefixLen};

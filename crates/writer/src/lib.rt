@@ -1,5 +1,7 @@
 // The writer of an image's header (document 01, "Header"), in two calls: the digest that is to be
 // signed, and the header itself.
+#![tactic(auto)]
+
 mod checks;
 mod pieces;
 
