@@ -4,7 +4,7 @@ ghost use Rattle.flash.specs.Geometry.{listed, counted, aligned, fits, apart, im
 ghost use Rattle.flash.specs.Valid.{Shaped};
 
 // Each slot has count + 1 sectors of size bytes, the last one its trailer. SWAP is one sector.
-#[derive(Drop)]
+#[derive(Clone, Copy)]
 pub struct Geometry {
     pub size: usize,
     pub count: usize,

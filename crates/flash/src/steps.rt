@@ -8,7 +8,7 @@ use crate::bytes::{erase, load, write};
 use crate::geometry::{Geometry, image_size, is_aligned, slot_size};
 
 // A step with its offsets; a copy goes from the first to the second.
-#[derive(Drop)]
+#[derive(Clone, Copy)]
 pub enum Step {
     Erase(usize),
     Copy(usize, usize),

@@ -6,7 +6,7 @@ ghost use Rattle.frondicare.specs.declared.flash_entries.OptionalStep.TheVariant
 
 use flash::{Geometry, Step, apply_step, check_geometry};
 
-#[derive(Drop)]
+#[derive(Clone, Copy)]
 pub(crate) enum OptionalStep {
     Some(Step),
     None,

@@ -22,7 +22,7 @@ use writer::Fields;
 
 // Where a tag's content lies in its header, with the number 0; or document 01's number, and zeros.
 #[repr(C)]
-#[derive(Drop)]
+#[derive(Clone, Copy)]
 pub struct TagPlace {
     pub number: u32,
     pub at: usize,
@@ -31,7 +31,7 @@ pub struct TagPlace {
 
 // An image's version, with the number 0; or document 01's number, and 0.
 #[repr(C)]
-#[derive(Drop)]
+#[derive(Clone, Copy)]
 pub struct FlatVersion {
     pub number: u32,
     pub version: u32,

@@ -7,7 +7,7 @@ use header::{Lookup, Wanted};
 
 // A tag and where the next lookup goes on, with the number 0; or the papers' number, and zeros.
 #[repr(C)]
-#[derive(Drop)]
+#[derive(Clone, Copy)]
 pub struct ListedTag {
     pub number: u32,
     pub kind: u16,

@@ -15,7 +15,7 @@ use slots::Work;
 // kind: 0 step, 1 last step, 2 boot, 3 refused, 4 finished. A step's op and numbers are those that
 // frondicare_apply_step takes. What an answer doesn't use is 0.
 #[repr(C)]
-#[derive(Drop)]
+#[derive(Clone, Copy)]
 pub struct FlatAnswer {
     pub kind: u32,
     pub number: u32,

@@ -44,7 +44,7 @@ pub extern "C" fn frondicare_most_steps(sector_count: usize) -> u32
 }
 
 // Whether an op stands for a step, and that step.
-#[derive(Drop)]
+#[derive(Clone, Copy)]
 struct AskedStep {
     known: bool,
     step: Step,

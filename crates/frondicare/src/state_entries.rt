@@ -15,7 +15,7 @@ const NO_STATE: u32 = 256;
 // The state byte of a sound trailer; NO_STATE where it is not sound, or where number says why the geometry
 // is refused.
 #[repr(C)]
-#[derive(Drop)]
+#[derive(Clone, Copy)]
 pub struct FlatState {
     pub number: u32,
     pub state: u32,

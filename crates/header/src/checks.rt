@@ -9,7 +9,7 @@ use crate::tags::{Tag, WalkStep, walk_step};
 use crate::{DIGEST, FIRMWARE_TYPE, FIRST, LENGTH, SIGNATURE, TIMESTAMP, VERSION, view};
 
 // The version with the number 0; or the number of the check that the header fails, and 0.
-#[derive(Drop)]
+#[derive(Clone, Copy)]
 pub struct Version {
     pub number: u32,
     pub version: u32,
@@ -26,7 +26,7 @@ fn is_marked(image: &[u8]) -> bool
 
 // What the walk has met so far of each mandatory type: 14, 15, 16, or 0; and whether it has met a tag
 // behind a digest tag that the digest has to cover.
-#[derive(Drop)]
+#[derive(Clone, Copy)]
 struct Seen {
     version: u32,
     timestamp: u32,

@@ -7,7 +7,7 @@ use crate::LENGTH;
 use crate::number::{byte_at, u16_at};
 
 // A tag: its type, where its content starts and how long it is, and where the walk goes on.
-#[derive(Drop)]
+#[derive(Clone, Copy)]
 pub struct Tag {
     pub kind: u16,
     pub at: usize,
@@ -17,7 +17,7 @@ pub struct Tag {
 
 // What the walk finds at a place: it stops there, with the number that a lookup then answers; a byte
 // of padding, and the next place; or a tag.
-#[derive(Drop)]
+#[derive(Clone, Copy)]
 pub enum WalkStep {
     Stop(u32),
     Padding(usize),
@@ -25,14 +25,14 @@ pub enum WalkStep {
 }
 
 // Which tags a lookup is for: those of any type, or of one.
-#[derive(Drop)]
+#[derive(Clone, Copy)]
 pub enum Wanted {
     Any,
     Kind(u16),
 }
 
 // The first wanted tag, or the papers' number.
-#[derive(Drop)]
+#[derive(Clone, Copy)]
 pub enum Lookup {
     Found(Tag),
     Refused(u32),

@@ -6,7 +6,7 @@ use crate::decimal::{Decimal, decimal_in};
 use writer::Fields;
 
 // The fields, or the first text that is no such number.
-#[derive(Drop)]
+#[derive(Clone, Copy)]
 pub(crate) enum Texts {
     Fields(Fields),
     NoVersion,

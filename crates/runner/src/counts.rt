@@ -5,7 +5,7 @@ ghost use Rattle.runner.specs.Counts.{with_step, roomy, counts_check, RoomFor};
 use flash::Step;
 
 #[repr(C)]
-#[derive(Drop)]
+#[derive(Clone, Copy)]
 pub struct StepCounts {
     pub erases: u32,
     pub copies: u32,

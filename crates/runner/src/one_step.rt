@@ -11,7 +11,7 @@ use slots::{Progress, Slot};
 
 // What was decided and, if it is a step, done. turned: that step made the last flag 0, and from there on the
 // signature checker's answers go by the slots exchanged.
-#[derive(Drop)]
+#[derive(Clone, Copy)]
 pub struct Advanced {
     pub answer: Answer,
     pub turned: bool,

@@ -12,7 +12,7 @@ use loader::{Answer, next_step};
 
 // did: the step was done; else nobody reads the step. ended: the run ends with the answer; else so many steps
 // are left, and the signature checker's answers are those that apply from here on.
-#[derive(Drop)]
+#[derive(Clone, Copy)]
 pub(crate) struct Standing {
     pub(crate) did: bool,
     pub(crate) step: Step,

@@ -12,7 +12,7 @@ use crate::word::{big_sigma0, big_sigma1, ch, maj, sum5};
 use std::num::wrapping_add_u32 as add;
 
 // Eight words: the hash value H0 to H7 and, within a block, the working variables a to h.
-#[derive(Drop)]
+#[derive(Clone, Copy)]
 pub struct Hash {
     pub a: u32,
     pub b: u32,

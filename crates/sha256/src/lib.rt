@@ -18,7 +18,7 @@ use message::copy_block;
 use output::to_bytes;
 
 // The digest with the number 0, or a refusal's number and zeros.
-#[derive(Drop)]
+#[derive(Clone, Copy)]
 pub struct DigestAnswer {
     pub number: u32,
     pub bytes: [u8; 32],

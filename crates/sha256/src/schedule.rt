@@ -5,7 +5,7 @@ ghost use Rattle.sha256.specs.Ring.{four_from, ring_word};
 use crate::word::{small_sigma0, small_sigma1, sum4};
 
 // The constants of four rounds.
-#[derive(Drop)]
+#[derive(Clone, Copy)]
 pub(crate) struct Four(
     pub(crate) u32,
     pub(crate) u32,

@@ -2,14 +2,14 @@
 use flash::Step;
 
 // How far an exchange has come: three for each finished sector, one or two in the current one.
-#[derive(Drop)]
+#[derive(Clone, Copy)]
 pub enum Progress {
     At(usize),
     Refused(u32),
 }
 
 // The state byte of a slot, where its trailer is sound.
-#[derive(Drop)]
+#[derive(Clone, Copy)]
 pub enum SlotState {
     Sound(u8),
     NotSound,
@@ -17,7 +17,7 @@ pub enum SlotState {
 }
 
 // The step that is due, or nothing more to do.
-#[derive(Drop)]
+#[derive(Clone, Copy)]
 pub enum Work {
     Due(Step),
     Finished,

@@ -5,14 +5,14 @@ ghost use Rattle.slots.specs.Places.{start, offset, Within, SectorIs, bytes_at, 
 
 use flash::Geometry;
 
-#[derive(Drop)]
+#[derive(Clone, Copy)]
 pub enum Slot {
     Boot,
     Update,
 }
 
 // A sector of the three areas. Sector count of a slot is its trailer.
-#[derive(Drop)]
+#[derive(Clone, Copy)]
 pub enum Place {
     Sector(Slot, usize),
     Swap,

@@ -5,7 +5,7 @@ ghost use Rattle.verify.specs.Summary.{summary_of};
 use header::{u32_at, view};
 
 // The numbers that a header holds.
-#[derive(Drop)]
+#[derive(Clone, Copy)]
 pub(crate) struct Numbers {
     pub(crate) version: u32,
     pub(crate) timestamp: u64,
@@ -14,7 +14,7 @@ pub(crate) struct Numbers {
 }
 
 // The number of the check 10 to 16 or 30 that the header fails; or the verdict, and what the header holds.
-#[derive(Drop)]
+#[derive(Clone, Copy)]
 pub(crate) enum Summary {
     Refused(u32),
     Read(u32, Numbers),

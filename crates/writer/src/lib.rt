@@ -17,7 +17,7 @@ use sha256::DigestAnswer;
 
 // The numbers that a header holds beside the firmware's size.
 #[repr(C)]
-#[derive(Drop)]
+#[derive(Clone, Copy)]
 pub struct Fields {
     pub version: u32,
     pub timestamp: u64,
