@@ -1,0 +1,5 @@
+use Rattle.std.proofs.Common.{append-nil, rules}
+use Rattle.sha256.proofs.digest_after.Goals as goal
+
+pub returns : goal.returns
+returns c = rw append-nil at c.finish.ensures

@@ -1,0 +1,6 @@
+use Rattle.std.proofs.Common.{rules}
+use Rattle.sha256.proofs.Answers.{from_nothing}
+use Rattle.sha256.proofs.digest_of_two.Goals as goal
+
+pub returns : goal.returns
+returns c = rw (← from_nothing _ _, ← c.new.ensures) c.finish.ensures

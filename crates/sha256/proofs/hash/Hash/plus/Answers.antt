@@ -1,0 +1,7 @@
+use Rattle.std.proofs.Common.{rules}
+use Rattle.sha256.specs.Rounds.{plus}
+use Rattle.sha256.proofs.hash.Hash.plus.Goals as goal
+
+pub returns : goal.returns
+unfolding plus
+returns c = cc

@@ -1,0 +1,11 @@
+use Rattle.std.proofs.Common.{rules, le-ltb, lt-ltb}
+use Rattle.sha256.specs.Ring.{ring_word}
+use Rattle.sha256.proofs.schedule.word.Goals as goal
+
+pub returns-then-t-lt16 : goal.returns-then-t-lt16
+unfolding ring_word
+returns-then-t-lt16 c = rw (lt-ltb _ _ c.if-t-lt16.true)
+
+pub returns : goal.returns
+unfolding ring_word
+returns c = rw (le-ltb _ _ c.if-t-lt16.false) (cc)

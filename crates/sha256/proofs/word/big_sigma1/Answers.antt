@@ -1,0 +1,7 @@
+use Rattle.std.proofs.Common.{rules}
+use Rattle.sha256.specs.Words.{Σ₁}
+use Rattle.sha256.proofs.word.big_sigma1.Goals as goal
+
+pub returns : goal.returns
+unfolding Σ₁
+returns c = cc

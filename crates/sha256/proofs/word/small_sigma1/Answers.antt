@@ -1,0 +1,7 @@
+use Rattle.std.proofs.Common.{rules}
+use Rattle.sha256.specs.Words.{σ₁}
+use Rattle.sha256.proofs.word.small_sigma1.Goals as goal
+
+pub returns : goal.returns
+unfolding σ₁
+returns c = cc
