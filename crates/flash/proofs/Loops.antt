@@ -85,7 +85,7 @@ module _ (f : List ℕ) (at : ℕ) (h : at ≤ length f) where
       → take at f ++ (ys ++ drop (length f - at) (drop at f)) ≡ overlay f at d
   unfolding overlay
   erased_part d ys e =
-      back ys ∙ rw (e, all_of_it, zero-add, drop-drop (length d) at f, append_assoc)
+      back ys ∙ rw (e, all_of_it, zero-add, drop-drop (length d) at f, append_assoc, append_assoc)
 
 -- a page more of a copy
 pub page_turn : (f cur page : List ℕ) (from to z k m : ℕ) → from + z ≤ length f → to + z ≤ length f → Apart from z to z → k + m ≤ z

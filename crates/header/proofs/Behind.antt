@@ -43,7 +43,7 @@ module _ (m : Mandatory) where
   from_first d false [] n = refl
   from_first d u (t ∷ ts) n =
       rw n
-      (from_first _ _ ts (by_test (λ (r : ℕ). eqb r 14 ≡ false) (eqb t.kind m.kind) (λ b. refl) (λ b. n))
+      (from_first (cond (eqb t.kind m.kind) 15 d) _ ts (by_test (λ (r : ℕ). eqb r 14 ≡ false) (eqb t.kind m.kind) (λ b. refl) (λ b. n))
       ∙ or_assoc u (must t) (some must ts))
 
   -- before it none does

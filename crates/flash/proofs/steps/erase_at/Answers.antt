@@ -1,0 +1,9 @@
+use native.Mathlib.Omega.{arith}
+use borrow.Author.Rules.{rules}
+use Rattle.flash.proofs.Loops.{erased_part}
+use Rattle.flash.proofs.steps.erase_at.Goals as goal
+
+pub returns : goal.returns
+returns c =
+    let a = c.args in
+    erased_part a.flash.now a.at (omega arith) _ _ c.erase.ensures

@@ -1,0 +1,7 @@
+use borrow.Author.Rules.{rules}
+use Rattle.flash.specs.Steps.{mark_place}
+use Rattle.flash.proofs.steps.is_mark_place.Goals as goal
+
+pub returns : goal.returns
+unfolding mark_place
+returns c = cc

@@ -1,0 +1,11 @@
+use borrow.Author.Rules.{rules}
+use Rattle.header.proofs.checks.is_marked.Goals as goal
+
+pub returns : goal.returns
+returns c =
+    rw (
+      ← c.byte_at.ensures,
+      ← c.byte_at-2.ensures,
+      ← c.byte_at-3.ensures,
+      ← c.byte_at-4.ensures,
+    )

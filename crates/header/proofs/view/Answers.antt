@@ -1,0 +1,24 @@
+use Prim.Native.Nat.{ℕ, ◌+◌, ◌-◌}
+use mathlib.Core.List.{List}
+use mathlib.Core.Path.{◌≡◌, sym, ◌∙◌}
+use native.Mathlib.Omega.{arith}
+use lib.ListN.{take, drop}
+use borrow.Author.Rules.{rules}
+use Rattle.header.specs.Lookup.{lookup, view_of}
+use Rattle.header.specs.declared.tags.Lookup.TheVariants.{Found}
+use Rattle.header.specs.declared.tags.Tag.{Tag}
+use Rattle.header.proofs.Lookups.{InHeader, looked_up}
+use Rattle.header.proofs.view.Goals as goal
+use Rattle.header.proofs.view.Goals.{After-struct_known-1}
+
+found : (c : After-struct_known-1) → lookup c.args.header.now c.args.kind ≡ Found c.in-Found.t
+found c = sym c.find_tag.ensures ∙ c.in-Found.is
+
+good : (c : After-struct_known-1) → InHeader c.args.header.now c.in-Found.t
+good c = looked_up _ _ (found c)
+
+pub overflow_add-end : goal.overflow_add-end
+overflow_add-end c = omega (arith, good c)
+
+pub slice_bounds-result-end : goal.slice_bounds-result-end
+slice_bounds-result-end c = omega (arith, good c)
