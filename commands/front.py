@@ -20,7 +20,7 @@ END = """./frondicare COMMAND --help says more about each, with examples.
 exit status: 0 done; 1 something failed, or a board or an image is refused; 2 the command is not understood
 
 A command proves and builds the program that it runs, where that has not been done since its last change. It waits while
-another one does that here; it cannot wait for plain rt, so call tools/rt with the same words."""
+another one does that here."""
 
 
 def version():

@@ -8,7 +8,7 @@ from model.flash import check
 from model.refusals import Refused
 from model.simulator import MOST_FLASH
 
-PROGRAM = Path(__file__).resolve().parents[1] / "target/bin/simulator"
+PROGRAM = Path(__file__).resolve().parents[1] / "crates/simulator/out/simulator"
 
 
 def board_or_none(data):

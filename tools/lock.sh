@@ -1,6 +1,7 @@
 # shellcheck shell=sh
-# Sourced in the top folder by whatever proves here, since two at once spoil each other's target/. Waits until nobody
-# else holds the lock, which is on this file, and holds it as long as the process lives. What a holder calls goes on.
+# Sourced in the top folder by whatever proves here, since two at once spoil what the other goes on with, target/ and the
+# programs in crates/*/out. Waits until nobody else holds the lock, which is on this file, and holds it as long as the
+# process lives. What a holder calls goes on.
 if [ "${FRONDICARE_LOCKED-}" != "$(pwd -P)" ]; then
     command -v flock >/dev/null || { echo "flock is not installed (Debian's package util-linux)" >&2 && exit 2; }
     exec 9<tools/lock.sh

@@ -124,7 +124,7 @@ def main():
             print("fallen together:", line)
         return
     token = re.compile(rf"(?<![\w'-])(?:{'|'.join(sorted(map(re.escape, pairs), key=len, reverse=True))})(?![\w'-])")
-    turn = lambda text: token.sub(lambda m: pairs[m.group(0)], text)
+    turn = lambda text: token.sub(lambda m: pairs[m.group(0)], text)  # noqa: E731
     for p in files(".antt", ".rt", ".edit", ".diff"):
         old = read(p)
         new = turn(old)

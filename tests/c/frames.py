@@ -7,7 +7,7 @@ import re
 import subprocess
 import sys
 
-LIBRARY = "target/staticlib/libfrondicare.a"
+LIBRARY = "crates/frondicare/out/libfrondicare.a"
 MOST = 512
 ENTRIES = 19
 

@@ -8,7 +8,7 @@ from functools import cache
 from pathlib import Path
 
 ROOT = Path(__file__).resolve().parents[2]
-LIBRARY = ROOT / "target/staticlib/libfrondicare.a"
+LIBRARY = ROOT / "crates/frondicare/out/libfrondicare.a"
 LINKED = ["memset"]
 ADDRESS, ARGUMENTS = 8, 6 * 8  # a call pushes its return address; an entry's caller, at most so many of its arguments
 

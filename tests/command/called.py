@@ -23,11 +23,11 @@ class Caller:
         self.folder.mkdir()
         self.programs = Path(folder) / "bin"
         self.programs.mkdir()
-        (self.programs / "rt").write_text(f'#!/bin/sh\necho "$*" >>"{self.proofs}"\n')
+        (self.programs / "rt").write_text(f'#!/bin/sh\necho "$*" >>"{self.proofs}"\necho "rt: running it" >&2\n')
         (self.programs / "rt").chmod(0o755)
-        # Nobody waits for the lock, as there is nothing to spoil.
+        # Nobody waits for the lock, as there is nothing to spoil. The stand-in is called, in the gate too.
         self.environment = {**os.environ, "PATH": f"{self.programs}:{os.environ['PATH']}",
-                            "FRONDICARE_LOCKED": str(ROOT), "PYTHONUNBUFFERED": ""}
+                            "FRONDICARE_LOCKED": str(ROOT), "FRONDICARE_BUILT": "", "PYTHONUNBUFFERED": ""}
         self.calls = 0
 
     def run(self, *words, **more):

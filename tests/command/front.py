@@ -105,7 +105,8 @@ def check_signals(caller, few):
     (few / "rt").write_text("#!/bin/sh\nexec sleep 60\n")
     (few / "rt").chmod(0o755)
     given = {"stdin": subprocess.PIPE, "stdout": subprocess.PIPE, "stderr": subprocess.PIPE,
-             "env": {**os.environ, "PATH": f"{few}:{os.environ['PATH']}"}, "preexec_fn": hear_signals}
+             "env": {**os.environ, "PATH": f"{few}:{os.environ['PATH']}", "FRONDICARE_BUILT": ""},
+             "preexec_fn": hear_signals}
     for number in STOPPING:
         commands = [subprocess.Popen([COMMAND, *words], **given)
                     for words in (["digest", BOARD], ["simulate"], ["pack", "-", "--hint", BOARD, "--version", "2"])]

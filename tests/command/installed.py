@@ -15,10 +15,14 @@ def check_installed(caller, few, board):
                                    for words in (["verify", board, *key], ["pack", board, "--version", "2", *key])],
                                **bare)
     caller.refused(1, "rt, the command of the Rattle kit, is not on the PATH", "digest", board, **bare)
-    (few / "rt").write_text("#!/bin/sh\necho 'rt: show proved (unchanged since it was last proved)'\n"
-                            "echo 'rt: digest NOT PROVED (exit 1, 0 s)'\nexit 1\n")
+    (few / "rt").write_text("#!/bin/sh\nexec >&2\necho 'rt: chose --jobs 2 for digest'\n"
+                            "echo 'fn digest::main: not proved'\necho 'logic=not-proved'\nexit 1\n")
     (few / "rt").chmod(0o755)
-    caller.refused(1, "digest: digest is not proved. rt says:\nrt: digest NOT PROVED", "digest", board, **bare)
+    done = caller.run(COMMAND, "digest", board, **bare)
+    assert (done.returncode, done.stdout, done.stderr) == (1, "", "digest or something that it rests on has changed: "
+                                                           "it is proved and built again\n./frondicare digest: "
+                                                           "digest is not proved. rt says:\n"
+                                                           "fn digest::main: not proved\nlogic=not-proved\n"), done
     copy = caller.folder / "copy"
     for name in ("commands", "model", "picture", "include"):
         shutil.copytree(ROOT / name, copy / name, ignore=shutil.ignore_patterns("__pycache__"))

@@ -2,19 +2,20 @@
 from pathlib import Path
 
 ROOT = Path(__file__).resolve().parents[2]
-KIT = {"io", "os", "libc"}  # libraries of the toolchain
 
 
 def groups():
-    """The crates under each comment, each with those that it knows: {title: {crate: [..]}}."""
+    """The crates under each comment, each with those of ours that it knows: {title: {crate: [..]}}."""
     found, title = {}, None
     for line in (ROOT / "crates.txt").read_text(encoding="utf-8").splitlines():
         if line.startswith("# "):
             title = line[2:]
         elif line:
-            name, _, words = line.partition(":")
-            found.setdefault(title, {})[name] = [word for word in words.split() if word not in KIT]
-    return found
+            named, _, words = line.partition(":")
+            found.setdefault(title, {})[named.split()[0]] = words.split()
+    ours = {name for crates in found.values() for name in crates}
+    return {title: {name: [word for word in words if word in ours] for name, words in crates.items()}
+            for title, crates in found.items()}
 
 
 def reached(known, name):
