@@ -68,7 +68,7 @@ class Powers:
         answers = [signed(image(g, by, slot)) for slot in (BOOT, UPDATE)]
         outcome, uncut = [runner.run(g, self.flash, answers, most, ZEROS) for most in (number, MOST_STEPS)]
         begins = outcome.steps == uncut.steps[:number] and outcome.flash == self.after(outcome.steps)
-        self.note(begins, "step-by-step", f"{len(outcome.steps)} steps with the number {number}")
+        self.note(begins, "step_by_step", f"{len(outcome.steps)} steps with the number {number}")
         self.begun += len(outcome.steps)
         return outcome
 
@@ -83,7 +83,7 @@ class Powers:
         """Whether the power-up counts as a boot."""
         g, outcome = self.board.geometry, self.power_up(cut.steps)
         answer, self.flash = outcome.answer, outcome.flash
-        self.note(answer.step is not None or answer == NO_REASON, "goes-on", f"{answer.kind} {answer.number}")
+        self.note(answer.step is not None or answer == NO_REASON, "goes_on", f"{answer.kind} {answer.number}")
         if answer.step is None or cut.left is None:
             return answer.kind == "BOOT"
         if not may_leave(g, answer.step, cut.left):
@@ -112,7 +112,7 @@ def play(board, first_cuts, second_cuts):
     assert_premises(board)
     g, flash, _ = board
     first = Powers(board, flash, first_cuts)
-    first.note(sound_with(g, first.flash, BOOT, TESTING), "on-trial")
+    first.note(sound_with(g, first.flash, BOOT, TESTING), "on_trial_lem")
     first.note(images(g, first.flash) == images(g, flash)[::-1], "exchanged")
     second = Powers(board, first.flash, second_cuts)
     second.note(images(g, second.flash) == images(g, flash), "restored")

@@ -105,7 +105,7 @@ COUNTEREXAMPLES = {
                                                       "second.boots (REFUSE 20), second.restored",
                                                       second=(Cut(0, SOUND_70), )),
     "all_or_none": Counterexample([(runner, "run", all_or_none)],
-                                  "first.step-by-step (0 steps with the number 7)",
+                                  "first.step_by_step (0 steps with the number 7)",
                                   first=(Cut(7), )),
     "update_stays_staged": Counterexample([(loader, "SPENT", 0x70)], "second.restored"),
     "return_needs_a_sound_update": Counterexample([(loader, "without_update", return_only_if_spent)],
