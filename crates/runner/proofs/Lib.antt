@@ -1,10 +1,3 @@
 pub mod Rooms
 pub mod Turns
 pub mod Standings
-pub mod Logic
-pub mod Parameters
-pub mod Walks
-pub mod Lending
-pub mod Passing
-pub mod Adding
-pub mod Counting

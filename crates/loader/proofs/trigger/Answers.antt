@@ -1,0 +1,12 @@
+use borrow.Author.Rules.{rules}
+use borrow.Author.Tests.{eq-eqb, ne_eqb}
+use Rattle.loader.specs.Requests.{trigger_answer}
+use Rattle.loader.proofs.trigger.Goals as goal
+
+pub returns-then-number-ne0 : goal.returns-then-number-ne0
+unfolding trigger_answer
+returns-then-number-ne0 c = rw (← c.check_geometry-number.ensures, ne_eqb _ _ c.if-number-ne0.true)
+
+pub returns : goal.returns
+unfolding trigger_answer
+returns c = rw (← c.check_geometry-number.ensures, eq-eqb _ _ c.if-number-ne0.false, ← c.trigger.ensures)

@@ -1,0 +1,12 @@
+use Prim.Native.Nat.{◌%◌}
+use borrow.Author.Tests.{eq-eqb, ne_eqb}
+use Rattle.slots.specs.Flags.{half}
+use Rattle.slots.proofs.flags.half.Goals as goal
+
+pub returns-then-i-eq0 : goal.returns-then-i-eq0
+unfolding half
+returns-then-i-eq0 c = rw (eq-eqb (c.args.i % 2) 0 c.if-i-eq0.true)
+
+pub returns-else-i-eq0 : goal.returns-else-i-eq0
+unfolding half
+returns-else-i-eq0 c = rw (ne_eqb (c.args.i % 2) 0 c.if-i-eq0.false)

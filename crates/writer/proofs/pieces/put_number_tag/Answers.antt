@@ -1,0 +1,13 @@
+use lib.ListN.{length-append}
+use borrow.Author.Rules.{rules}
+use Rattle.writer.specs.Layout.{tag_bytes}
+use Rattle.writer.proofs.Stores.{then_stored, length-le}
+use Rattle.writer.proofs.pieces.put_number_tag.Goals as goal
+
+pub returns : goal.returns
+unfolding tag_bytes
+returns c = rw length-le (then_stored c.put_head.ensures c.put_number.ensures (rw (
+  length-append,
+  length-le,
+  length-le,
+)))
