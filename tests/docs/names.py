@@ -13,7 +13,7 @@ QUOTED = re.compile(r"`([^`\n]+)`")
 PATH = re.compile(r"(?:[\w.*-]+/)+[\w.*-]*|[\w*-]+\.(?:md|txt|py|rt|rs|c|h|sh|svg|antt|diff)")
 EDITS = re.compile(r"\bedits? (`\w+`(?:, `\w+`)*)")
 WORD = re.compile(r"[\w'-]+")
-BUILT = ("target/", "./", "rt ")  # what is not tracked, and commands
+BUILT = re.compile(r"target/|\./|rt |crates/[\w*]+/out/")  # what is not tracked, and commands
 SOURCES = ["crates/*.rt", "crates/*.antt", "*.edit", "include/*.h", "tests/rust/tests/*.rs", "commands/*.py"]
 
 
@@ -48,7 +48,7 @@ def missing_paths():
         links = re.findall(r"\]\(([^)#]+)\)", text)
         named += [str((ROOT / document).parent.joinpath(link).resolve().relative_to(ROOT)) for link in links]
         for path in sorted(set(named)):
-            if not path.startswith(BUILT) and not is_there(path, document):
+            if not BUILT.match(path) and not is_there(path, document):
                 yield f"{document}: {path} does not exist"
 
 
@@ -78,12 +78,9 @@ def edits():
 def missing_edits():
     if not edits():
         yield f"{ARCHITECTURE} names no edit"
-    files = [name for name in FILES if name.endswith(".edit")]
-    for name in sorted(edits() - {Path(name).stem for name in files}):
+    there = {Path(name).stem for name in FILES if fnmatch(name, "crates/*/must-fail/*.edit")}
+    for name in sorted(edits() - there):
         yield f"{ARCHITECTURE}: no edit {name}"
-    for name in files:
-        if "\nrefused in: " not in read(name):
-            yield f"{name} has no line 'refused in:'"
 
 
 def missing_names():
@@ -92,7 +89,7 @@ def missing_names():
     words = {part for name in FILES if name.startswith("crates/") for part in Path(name).with_suffix("").parts}
     words = words.union(WORD.findall(text), edits(), in_column("wrong loader"))
     for quoted in sorted(set(QUOTED.findall(read(ARCHITECTURE)))):
-        if PATH.fullmatch(quoted) or quoted.startswith(BUILT):
+        if PATH.fullmatch(quoted) or BUILT.match(quoted):
             continue
         parts = WORD.findall(f"frondicare{quoted}" if quoted.startswith("_") else quoted)
         if quoted not in text if " " in quoted else not words.issuperset(parts):
