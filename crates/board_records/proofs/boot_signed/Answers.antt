@@ -1,0 +1,5 @@
+use borrow.Author.Rules.{rules}
+use Rattle.board_records.proofs.boot_signed.Goals as goal
+
+pub returns : goal.returns
+returns c = rw c.number.ensures.0

@@ -1,0 +1,5 @@
+use borrow.Author.Rules.{rules}
+use Rattle.board_records.proofs.name.Goals as goal
+
+pub returns : goal.returns
+returns c = cc

@@ -1,0 +1,5 @@
+use borrow.Author.Rules.{rules}
+use Rattle.frondicare.proofs.frondicare_version_of.Goals as goal
+
+pub returns : goal.returns
+returns c = rw (← c.version_of-v.ensures)
