@@ -13,7 +13,7 @@ QUOTED = re.compile(r"`([^`\n]+)`")
 PATH = re.compile(r"(?:[\w.*-]+/)+[\w.*-]*|[\w*-]+\.(?:md|txt|py|rt|rs|c|h|sh|svg|antt|diff)")
 EDITS = re.compile(r"\bedits? (`\w+`(?:, `\w+`)*)")
 WORD = re.compile(r"[\w'-]+")
-BUILT = re.compile(r"target/|\./|rt |crates/[\w*]+/out/")  # what is not tracked, and commands
+BUILT = re.compile(r"target/|\./|rt |crates/[\w*]+/out\b")  # what is not tracked, and commands
 SOURCES = ["crates/*.rt", "crates/*.antt", "*.edit", "include/*.h", "tests/rust/tests/*.rs", "commands/*.py"]
 
 
