@@ -1,5 +1,5 @@
 -- Document 01, "Flash steps and cuts": what a power loss on a step may leave (the paper's word for it is a cut).
-use Rattle.std.specs.Prelude.{ℕ, ◌+◌, ◌-◌, ◌<◌, Bool, true, false, ◌||◌, List, [], ◌⊎◌, ◌≡◌, eqb, length, drop, get_or}
+use Rattle.std.specs.Prelude.{ℕ, ◌+◌, ◌-◌, ◌<◌, Bool, true, false, ◌||◌, List, ◌⊎◌, ◌≡◌, eqb, length, drop, get_or}
 use Rattle.compare.specs.Compare.{same}
 use Rattle.flash.specs.Bytes.{overlay}
 use Rattle.flash.specs.Geometry.{image_size}

@@ -9,7 +9,7 @@ use lib.ListN.{length}
 use Rattle.header.specs.Listing.{listing, TagsListed}
 use Rattle.header.specs.Lookup.{matches, first, lookup_from, lookup, of_kind}
 use Rattle.header.specs.Walk.{Walk, walk}
-use Rattle.header.specs.declared.tags.Lookup.TheVariants.{Found, Refused}
+use Rattle.header.specs.declared.tags.Lookup.TheVariants.{Found}
 use Rattle.header.specs.declared.tags.Tag.{Tag}
 use Rattle.header.specs.declared.tags.Wanted.TheVariants.{Any, Kind}
 use Rattle.header.specs.declared.tags.Wanted.{Wanted}

@@ -1,7 +1,7 @@
 -- A run ends by itself, on any flash. Assumes nothing.
 use Prim.Native.Nat.{ℕ, suc, ◌+◌, ◌-◌, ◌*◌, ◌≤◌, ◌<◌}
 use mathlib.Core.Bool.{Bool, true, false}
-use mathlib.Core.List.{List, []}
+use mathlib.Core.List.{List}
 use mathlib.Core.Path.{◌≡◌, refl, subst}
 use native.Mathlib.Decide.{dec_lt}
 use native.Mathlib.Omega.{arith}
@@ -22,7 +22,7 @@ use Rattle.loader.specs.Checks.{Checks}
 use Rattle.loader.specs.Decisions.{boot_or}
 use Rattle.loader.specs.States.{staged, on_trial}
 use Rattle.loader.specs.declared.answers.Answer.TheVariants as A
-use Rattle.runner.specs.Runs.{Outcome, ends, run_for, run_of}
+use Rattle.runner.specs.Runs.{Outcome, run_for, run_of}
 use Rattle.power_loss.specs.RunEnds.{IsEnd, RunEnds}
 use Rattle.power_loss.proofs.Decided.{at_rest, boot_ends, at_ill_formed}
 use Rattle.power_loss.proofs.Found.{found, found-run}

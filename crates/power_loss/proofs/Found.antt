@@ -2,7 +2,7 @@
 -- Assumes nothing.
 use Prim.Native.Nat.{ℕ, zero, suc, ◌+◌, ◌*◌, ◌≤◌}
 use mathlib.Core.Bool.{Bool, true, false}
-use mathlib.Core.List.{List, []}
+use mathlib.Core.List.{List}
 use mathlib.Core.Path.{◌≡◌, refl}
 use native.Mathlib.Omega.{arith}
 use borrow.Author.Tests.{eqb-true}
@@ -13,7 +13,6 @@ use Rattle.flash.specs.declared.steps.Step.TheVariants.{Byte}
 use Rattle.flash.specs.declared.steps.Step.{Step}
 use Rattle.slots.specs.Places.{image_of}
 use Rattle.slots.specs.Trailers.{state_at}
-use Rattle.slots.specs.declared.answers.Progress.TheVariants as P
 use Rattle.slots.specs.declared.places.Slot.TheVariants.{Boot, Update}
 use Rattle.slots.proofs.Exchanging.{exchange_step_at}
 use Rattle.loader.specs.Checks.{Checks}
@@ -21,7 +20,7 @@ use Rattle.loader.specs.Decisions.{boot_or, next_step}
 use Rattle.loader.specs.States.{spent, on_trial}
 use Rattle.loader.specs.declared.answers.Answer.TheVariants as A
 use Rattle.loader.proofs.ByProgress.{why}
-use Rattle.runner.specs.Runs.{ends, meets, run_for}
+use Rattle.runner.specs.Runs.{meets, run_for}
 use Rattle.power_loss.proofs.Decided.{boot_ends, at_exchange, at_passed_over, finish-due, finish-last, finish-on}
 use Rattle.power_loss.proofs.Ends.{finishes, move_finishing, over}
 use Rattle.power_loss.proofs.Exchange.{move_exchanging}

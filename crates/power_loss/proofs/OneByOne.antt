@@ -1,7 +1,7 @@
 -- A run with one step more is the run and then that step. Assumes nothing.
 use Prim.Native.Nat.{ℕ, zero, suc}
 use mathlib.Core.Bool.{Bool, true, false, cond}
-use mathlib.Core.List.{List, [], ◌∷◌}
+use mathlib.Core.List.{List, []}
 use mathlib.Core.Path.{◌≡◌, refl}
 use native.Mathlib.Omega.{arith}
 use borrow.Author.Tests.{le-leb}
@@ -17,8 +17,7 @@ use Rattle.loader.specs.declared.answers.Answer.TheVariants as A
 use Rattle.loader.specs.declared.answers.Answer.{Answer}
 use Rattle.runner.specs.Counts.{counts_check}
 use Rattle.runner.specs.Runs.{Outcome, ends, did, turns, meets, run_for, run_check, run_of}
-use Rattle.runner.specs.declared.counts.StepCounts.{StepCounts}
-use Rattle.power_loss.specs.OneByOne.{Then, OneMore, OneByOne}
+use Rattle.power_loss.specs.OneByOne.{OneMore, OneByOne}
 
 module _ (checks : Checks) (g : Geometry) where
   -- a step before both changes nothing of it

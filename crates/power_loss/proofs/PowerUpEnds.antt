@@ -13,7 +13,7 @@ use Rattle.flash.specs.Steps.{applied}
 use Rattle.flash.specs.declared.geometry.Geometry.{Geometry}
 use Rattle.flash.specs.declared.steps.Step.{Step}
 use Rattle.slots.specs.Places.{image_of}
-use Rattle.slots.specs.declared.places.Slot.TheVariants.{Boot, Update}
+use Rattle.slots.specs.declared.places.Slot.TheVariants.{Update}
 use Rattle.loader.specs.Checks.{Checks}
 use Rattle.loader.specs.Decisions.{next_step}
 use Rattle.loader.specs.declared.answers.Answer.TheVariants as A

@@ -11,14 +11,12 @@ use lib.ListN.{length}
 use Rattle.flash.specs.declared.geometry.Geometry.{Geometry}
 use Rattle.flash.specs.declared.steps.Step.{Step}
 use Rattle.slots.specs.Places.{image_of, trailer_of}
-use Rattle.slots.specs.declared.answers.Progress.TheVariants as P
 use Rattle.slots.specs.declared.places.Slot.TheVariants.{Boot, Update}
 use Rattle.loader.specs.Checks.{Checks}
 use Rattle.loader.specs.Decisions.{boot_or, next_step}
 use Rattle.loader.specs.States.{updating, testing, staged, on_trial}
-use Rattle.loader.specs.declared.answers.Answer.TheVariants as A
 use Rattle.loader.specs.declared.answers.Answer.{Answer}
-use Rattle.runner.specs.Runs.{Outcome, ends, did, run_for}
+use Rattle.runner.specs.Runs.{Outcome, did, run_for}
 use Rattle.power_loss.specs.Histories.{finished_all, sum}
 use Rattle.power_loss.specs.RunEnds.{IsEnd}
 use Rattle.power_loss.proofs.Contents.{following, contents_start}

@@ -1,7 +1,7 @@
 -- The signature checker's answers at a power-up are those of its phase. Assumes nothing.
 use Prim.Native.Nat.{ℕ, zero, suc, ◌*◌}
 use mathlib.Core.Bool.{Bool, true, false, not, ◌&&◌}
-use mathlib.Core.List.{List, []}
+use mathlib.Core.List.{List}
 use mathlib.Core.Path.{◌≡◌, refl, ap, ◌∙◌}
 use native.Mathlib.Omega.{arith}
 use borrow.Author.Tests.{eq-eqb, ne_eqb}
@@ -15,7 +15,6 @@ use Rattle.slots.specs.declared.places.Slot.{Slot}
 use Rattle.slots.proofs.Corresponding.{one_to_one}
 use Rattle.loader.specs.Checks.{Checks}
 use Rattle.loader.specs.MidSwap.{mid_swap}
-use Rattle.loader.specs.declared.answers.Answer.TheVariants as A
 use Rattle.power_loss.specs.PowerUps.{signed}
 use Rattle.power_loss.proofs.Contents.{Contents, following, contents_new, contents_end}
 use Rattle.power_loss.proofs.Images.{image-same}

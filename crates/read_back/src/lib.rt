@@ -1,3 +1,2 @@
 // What the writer wrote reads back: the claim stands in specs/, its proof in proofs/. No code.
 #![tactic(auto)]
-

@@ -1,6 +1,6 @@
 -- Equal bytes are parsed into equal words.
 -- Assumes nothing.
-use Rattle.std.proofs.Common.{◌≡◌, ℕ, zero, suc, ◌+◌, ◌-◌, ◌*◌, ◌<◌, ◌≤◌, List, [], ◌++◌, length, get_or, set, refl, ap, ◌∙◌, add_assoc, arith, length-append, get_or-set_other, get_or-set_same}
+use Rattle.std.proofs.Common.{◌≡◌, ℕ, zero, suc, ◌+◌, ◌-◌, ◌*◌, ◌<◌, ◌≤◌, List, ◌++◌, length, get_or, set, refl, ap, ◌∙◌, add_assoc, arith, length-append, get_or-set_other, get_or-set_same}
 use native.Mathlib.Decide.{ℕ_discrete}
 use Rattle.sha256.specs.Message.{pad_to, words_at}
 use Rattle.sha256.specs.Reading.{Same64}

@@ -1,11 +1,7 @@
 use Prim.Native.Nat.{◌-◌, ◌≤◌}
-use mathlib.Core.Path.{◌≡◌, refl, ◌∙◌}
-use native.Mathlib.Omega.{arith}
-use borrow.Author.Rules.{rules}
+use mathlib.Core.Path.{◌≡◌}
 use lib.ListN.{length, drop}
 use Rattle.compare.specs.Compare.{all}
-use Rattle.compare.proofs.Parts.{Splits, next, stop}
-use Rattle.compare.proofs.Values.{all_block, all_none}
 use Rattle.compare.proofs.all.Given as goal
 
 abbrev pub invariant-loop-i : goal.invariant-loop-i

@@ -1,10 +1,5 @@
-use Prim.Native.Nat.{◌-◌, ◌≤◌}
-use mathlib.Core.Bool.{◌&&◌}
-use mathlib.Core.Path.{◌≡◌, refl, ◌∙◌}
+use mathlib.Core.Path.{refl, ◌∙◌}
 use native.Mathlib.Omega.{arith}
-use borrow.Author.Rules.{rules}
-use lib.ListN.{length, drop}
-use Rattle.compare.specs.Compare.{all}
 use Rattle.compare.proofs.Parts.{after, over}
 use Rattle.compare.proofs.Values.{all-byte, all_none}
 use Rattle.compare.proofs.is_all_block.Goals as goal

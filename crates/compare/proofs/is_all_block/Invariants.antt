@@ -1,12 +1,8 @@
 use Prim.Native.Nat.{◌-◌, ◌≤◌}
 use mathlib.Core.Bool.{◌&&◌}
-use mathlib.Core.Path.{◌≡◌, refl, ◌∙◌}
-use native.Mathlib.Omega.{arith}
-use borrow.Author.Rules.{rules}
+use mathlib.Core.Path.{◌≡◌}
 use lib.ListN.{length, drop}
 use Rattle.compare.specs.Compare.{all}
-use Rattle.compare.proofs.Parts.{after, over}
-use Rattle.compare.proofs.Values.{all-byte, all_none}
 use Rattle.compare.proofs.is_all_block.Given as goal
 
 abbrev pub invariant-loop-i : goal.invariant-loop-i

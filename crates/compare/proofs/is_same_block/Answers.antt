@@ -1,10 +1,5 @@
-use Prim.Native.Nat.{◌-◌, ◌≤◌}
-use mathlib.Core.Bool.{◌&&◌}
-use mathlib.Core.Path.{◌≡◌, refl, ◌∙◌}
+use mathlib.Core.Path.{refl, ◌∙◌}
 use native.Mathlib.Omega.{arith}
-use borrow.Author.Rules.{rules}
-use lib.ListN.{length, drop}
-use Rattle.compare.specs.Compare.{same}
 use Rattle.compare.proofs.Parts.{after, over}
 use Rattle.compare.proofs.Sameness.{same_byte, same_none}
 use Rattle.compare.proofs.is_same_block.Goals as goal

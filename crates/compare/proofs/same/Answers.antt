@@ -1,8 +1,6 @@
-use Prim.Native.Nat.{◌-◌, ◌≤◌}
-use mathlib.Core.Path.{◌≡◌, refl, ◌∙◌}
+use mathlib.Core.Path.{refl, ◌∙◌}
 use native.Mathlib.Omega.{arith}
-use borrow.Author.Rules.{rules}
-use lib.ListN.{length, drop}
+use lib.ListN.{drop}
 use Rattle.compare.specs.Compare.{same}
 use Rattle.compare.proofs.Parts.{Splits, next, stop}
 use Rattle.compare.proofs.Sameness.{same_lengths, same_block, same_none, block_lengths}

@@ -1,11 +1,7 @@
 use Prim.Native.Nat.{◌-◌, ◌≤◌}
-use mathlib.Core.Path.{◌≡◌, refl, ◌∙◌}
-use native.Mathlib.Omega.{arith}
-use borrow.Author.Rules.{rules}
+use mathlib.Core.Path.{◌≡◌}
 use lib.ListN.{length, drop}
 use Rattle.compare.specs.Compare.{same}
-use Rattle.compare.proofs.Parts.{Splits, next, stop}
-use Rattle.compare.proofs.Sameness.{same_lengths, same_block, same_none, block_lengths}
 use Rattle.compare.proofs.same.Given as goal
 
 abbrev pub invariant-loop-i : goal.invariant-loop-i

@@ -1,5 +1,4 @@
 use mathlib.Core.Path.{sym, ◌∙◌}
-use borrow.Author.Rules.{rules}
 use Rattle.flash.proofs.Areas.{valid}
 use Rattle.flash.proofs.Targets.{refused-geometry, refused-step, carried}
 use Rattle.flash.proofs.apply_step.Goals as goal

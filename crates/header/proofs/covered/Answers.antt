@@ -1,7 +1,6 @@
 use mathlib.Core.Path.{◌≡◌, sym, ◌∙◌}
 use native.Mathlib.Omega.{arith}
 use lib.Seq.{length-take-le}
-use borrow.Author.Rules.{rules}
 use Rattle.header.specs.Lookup.{lookup}
 use Rattle.header.specs.declared.tags.Lookup.TheVariants.{Found}
 use Rattle.header.proofs.Lookups.{InHeader, looked_up}

@@ -1,4 +1,3 @@
-use borrow.Author.Rules.{rules}
 use Rattle.header.specs.Lookup.{lookup}
 use Rattle.header.proofs.find_tag.Goals as goal
 

@@ -1,6 +1,5 @@
 use mathlib.Core.Logic.{inl, inr}
 use mathlib.Core.Path.{sym, ◌∙◌}
-use borrow.Author.Rules.{rules}
 use Rattle.header.proofs.Lookups.{too_short, bad_start, walked}
 use Rattle.header.proofs.next_tag.Goals as goal
 

@@ -1,12 +1,7 @@
-use Prim.Native.Nat.{ℕ, ◌+◌, ◌-◌}
-use mathlib.Core.List.{List}
 use mathlib.Core.Path.{◌≡◌, sym, ◌∙◌}
 use native.Mathlib.Omega.{arith}
-use lib.ListN.{take, drop}
-use borrow.Author.Rules.{rules}
-use Rattle.header.specs.Lookup.{lookup, view_of}
+use Rattle.header.specs.Lookup.{lookup}
 use Rattle.header.specs.declared.tags.Lookup.TheVariants.{Found}
-use Rattle.header.specs.declared.tags.Tag.{Tag}
 use Rattle.header.proofs.Lookups.{InHeader, looked_up}
 use Rattle.header.proofs.view.Goals as goal
 use Rattle.header.proofs.view.Goals.{After-struct_known-1}

@@ -1,6 +1,5 @@
 use mathlib.Core.Path.{◌≡◌, sym}
 use native.Mathlib.Omega.{arith}
-use borrow.Author.Rules.{rules}
 use Rattle.header.specs.Lookup.{view_of}
 use Rattle.header.proofs.Refusals.{firmware-fits}
 use Rattle.compare.specs.Compare.{same}

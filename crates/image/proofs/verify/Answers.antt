@@ -1,5 +1,4 @@
 use mathlib.Core.Path.{sym, ◌∙◌}
-use borrow.Author.Rules.{rules}
 use borrow.Author.Tests.{ne_eqb}
 use Rattle.image.specs.Verdict.{verdict}
 use Rattle.image.proofs.verify.Goals as goal

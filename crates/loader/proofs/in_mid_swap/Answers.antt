@@ -1,4 +1,3 @@
-use borrow.Author.Rules.{rules}
 use borrow.Author.Tests.{eq-eqb, ne_eqb}
 use Rattle.loader.specs.MidSwap.{mid_swap_answer}
 use Rattle.loader.proofs.in_mid_swap.Goals as goal

@@ -1,4 +1,3 @@
-use borrow.Author.Rules.{rules}
 use borrow.Author.Tests.{eq-eqb, ne_eqb}
 use Rattle.loader.specs.Decisions.{next_step}
 use Rattle.loader.proofs.next_step.Goals as goal

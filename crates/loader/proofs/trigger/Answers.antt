@@ -1,4 +1,3 @@
-use borrow.Author.Rules.{rules}
 use borrow.Author.Tests.{eq-eqb, ne_eqb}
 use Rattle.loader.specs.Requests.{trigger_answer}
 use Rattle.loader.proofs.trigger.Goals as goal

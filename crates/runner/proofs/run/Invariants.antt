@@ -1,4 +1,3 @@
-use Rattle.std.proofs.Common.{ℕ}
 use Rattle.loader.specs.Checks.{image_checks}
 use Rattle.runner.specs.Runs.{run_of}
 use Rattle.runner.proofs.Standings.{Stands}

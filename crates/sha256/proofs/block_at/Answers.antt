@@ -1,4 +1,4 @@
-use Rattle.std.proofs.Common.{ℕ, List, ap, ◌∙◌, arith, rules}
+use Rattle.std.proofs.Common.{ℕ, List, ap, ◌∙◌, arith}
 use Rattle.sha256.specs.Rounds.{compress}
 use Rattle.sha256.proofs.Parsing.{same_block, block_in_first, block_in_second}
 use Rattle.sha256.proofs.block_at.Goals as goal

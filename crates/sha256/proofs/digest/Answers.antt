@@ -1,4 +1,4 @@
-use Rattle.std.proofs.Common.{append-nil, rules}
+use Rattle.std.proofs.Common.{append-nil}
 use Rattle.sha256.proofs.digest.Goals as goal
 
 pub returns : goal.returns

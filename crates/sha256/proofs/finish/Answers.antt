@@ -1,4 +1,4 @@
-use Rattle.std.proofs.Common.{length, sym, ◌∙◌, arith, rules}
+use Rattle.std.proofs.Common.{length, sym, ◌∙◌, arith}
 use Rattle.sha256.proofs.Answers.{short, readable, accepted, too_long}
 use Rattle.sha256.proofs.finish.Goals as goal
 

@@ -1,4 +1,4 @@
-use Rattle.std.proofs.Common.{◌≡◌, ℕ, ◌+◌, ◌*◌, ◌<◌, false, leb, sym, arith, rules, le-leb}
+use Rattle.std.proofs.Common.{◌≡◌, ℕ, ◌+◌, ◌*◌, ◌<◌, false, leb, sym, arith, le-leb}
 use borrow.Author.Tests.{lt-leb}
 use Rattle.sha256.proofs.fits.Goals as goal
 

@@ -1,6 +1,5 @@
-use Rattle.std.proofs.Common.{◌≡◌, ◌-◌, ◌≤◌, ◌++◌, refl, ap, ◌∙◌, add-one, arith, rules}
+use Rattle.std.proofs.Common.{refl, ap, ◌∙◌, add-one, arith, rules}
 use Rattle.sha256.specs.Digest.{hashed}
-use Rattle.sha256.specs.Message.{pad_to}
 use Rattle.sha256.proofs.hash_rest.Goals as goal
 
 pub loop-i-init : goal.loop-i-init

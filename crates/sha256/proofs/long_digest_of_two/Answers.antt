@@ -1,4 +1,3 @@
-use Rattle.std.proofs.Common.{rules}
 use Rattle.sha256.proofs.Answers.{from_nothing}
 use Rattle.sha256.proofs.long_digest_of_two.Goals as goal
 

@@ -1,5 +1,4 @@
 use mathlib.Core.Path.{sym, ◌∙◌}
-use borrow.Author.Rules.{rules}
 use borrow.Author.Tests.{ne_eqb}
 use Rattle.flash.proofs.Areas.{valid}
 use Rattle.slots.specs.Answers.{exchange_answer}

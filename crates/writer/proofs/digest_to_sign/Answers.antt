@@ -1,7 +1,6 @@
 use mathlib.Core.Path.{refl, sym, ◌∙◌}
 use native.Mathlib.Omega.{arith}
 use lib.Seq.{length-take-le}
-use borrow.Author.Rules.{rules}
 use Rattle.writer.proofs.Accepted.{Accepted, accepted}
 use Rattle.writer.proofs.Whole.{answer-is, signs, refuses}
 use Rattle.writer.proofs.digest_to_sign.Goals as goal

@@ -1,7 +1,6 @@
 use mathlib.Core.Path.{◌≡◌}
 use native.Mathlib.Omega.{arith}
 use lib.ListN.{length, length-append}
-use borrow.Author.Rules.{rules}
 use Rattle.writer.specs.Layout.{covered_part}
 use Rattle.writer.proofs.Stores.{then_stored, length-le, tag-length}
 use Rattle.writer.proofs.put_covered.Goals as goal

@@ -1,6 +1,5 @@
 use mathlib.Core.Path.{refl}
 use lib.ListN.{length-append}
-use borrow.Author.Rules.{rules}
 use Rattle.writer.proofs.Stores.{then_stored, length-le, tag-length}
 use Rattle.writer.proofs.put_fixed.Goals as goal
 

@@ -3,7 +3,6 @@ use mathlib.Core.Path.{◌≡◌, ap, sym, ◌∙◌}
 use native.Mathlib.Omega.{arith}
 use lib.ListN.{length}
 use lib.Seq.{length-take-le}
-use borrow.Author.Rules.{rules}
 use Rattle.sha256.specs.declared.DigestAnswer.{DigestAnswer}
 use Rattle.writer.specs.Writer.{write_check}
 use Rattle.writer.proofs.Accepted.{Accepted, accepted, refused_buffer, refused_fields}

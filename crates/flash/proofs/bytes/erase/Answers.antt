@@ -1,8 +1,6 @@
-use Prim.Native.Nat.{◌-◌, ◌≤◌}
 use mathlib.Core.Path.{◌≡◌, refl}
 use native.Mathlib.Omega.{arith}
-use borrow.Author.Rules.{rules}
-use lib.ListN.{length, length-set}
+use lib.ListN.{length-set}
 use Rattle.flash.specs.Bytes.{blank, overlay}
 use Rattle.flash.proofs.Loops.{erase_turn}
 use Rattle.flash.proofs.bytes.erase.Goals as goal

@@ -1,10 +1,7 @@
 use Prim.Native.Nat.{◌-◌, ◌≤◌}
-use mathlib.Core.Path.{◌≡◌, refl}
-use native.Mathlib.Omega.{arith}
-use borrow.Author.Rules.{rules}
-use lib.ListN.{length, length-set}
+use mathlib.Core.Path.{◌≡◌}
+use lib.ListN.{length}
 use Rattle.flash.specs.Bytes.{blank, overlay}
-use Rattle.flash.proofs.Loops.{erase_turn}
 use Rattle.flash.proofs.bytes.erase.Given as goal
 
 abbrev pub invariant-loop-i : goal.invariant-loop-i

@@ -1,8 +1,6 @@
-use Prim.Native.Nat.{◌-◌, ◌≤◌}
 use mathlib.Core.Path.{◌≡◌, refl, sym}
 use native.Mathlib.Omega.{arith}
-use borrow.Author.Rules.{rules}
-use lib.ListN.{length, take, length-set, take-append-drop}
+use lib.ListN.{length, length-set, take-append-drop}
 use lib.Seq.{take-length}
 use Rattle.flash.specs.Bytes.{ands, write}
 use Rattle.flash.proofs.Loops.{write_turn}

@@ -1,11 +1,7 @@
 use Prim.Native.Nat.{◌-◌, ◌≤◌}
-use mathlib.Core.Path.{◌≡◌, refl, sym}
-use native.Mathlib.Omega.{arith}
-use borrow.Author.Rules.{rules}
-use lib.ListN.{length, take, length-set, take-append-drop}
-use lib.Seq.{take-length}
-use Rattle.flash.specs.Bytes.{ands, write}
-use Rattle.flash.proofs.Loops.{write_turn}
+use mathlib.Core.Path.{◌≡◌}
+use lib.ListN.{length, take}
+use Rattle.flash.specs.Bytes.{write}
 use Rattle.flash.proofs.bytes.write.Given as goal
 
 abbrev pub invariant-loop-i : goal.invariant-loop-i

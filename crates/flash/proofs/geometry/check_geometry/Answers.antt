@@ -1,4 +1,3 @@
-use borrow.Author.Rules.{rules}
 use Rattle.flash.proofs.Areas.{shaped, number_0, number_1, number_2, number_3, number_4}
 use Rattle.flash.proofs.geometry.check_geometry.Goals as goal
 

@@ -1,5 +1,4 @@
 use native.Mathlib.Omega.{arith}
-use borrow.Author.Rules.{rules}
 use Rattle.flash.specs.Geometry.{disjoint}
 use Rattle.flash.proofs.Areas.{placed_in}
 use Rattle.flash.proofs.geometry.is_disjoint.Goals as goal

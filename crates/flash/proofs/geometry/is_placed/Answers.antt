@@ -1,4 +1,3 @@
-use borrow.Author.Rules.{rules}
 use Rattle.flash.specs.Geometry.{placed}
 use Rattle.flash.proofs.geometry.is_placed.Goals as goal
 

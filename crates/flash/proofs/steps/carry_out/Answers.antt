@@ -1,4 +1,3 @@
-use borrow.Author.Rules.{rules}
 use Rattle.flash.specs.Steps.{closing}
 use Rattle.flash.proofs.Targets.{fits_as, copy-fits}
 use Rattle.flash.proofs.steps.carry_out.Goals as goal

@@ -1,10 +1,7 @@
-use Prim.Native.Nat.{◌+◌, ◌-◌, ◌%◌, ◌≤◌}
-use mathlib.Core.Path.{◌≡◌, refl, sym, ap, ◌∙◌}
-use native.Mathlib.Omega.{arith}
-use borrow.Author.Rules.{rules}
-use lib.ListN.{length, take, drop, take-append-drop}
-use Rattle.flash.specs.Bytes.{ands, write}
-use Rattle.flash.proofs.Loops.{all_of_it, written_part, page_turn}
+use Prim.Native.Nat.{◌-◌, ◌%◌, ◌≤◌}
+use mathlib.Core.Path.{◌≡◌}
+use lib.ListN.{length, take, drop}
+use Rattle.flash.specs.Bytes.{write}
 use Rattle.flash.proofs.steps.copy_sector.Given as goal
 
 abbrev pub invariant-loop-k : goal.invariant-loop-k

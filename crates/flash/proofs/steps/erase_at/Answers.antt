@@ -1,5 +1,4 @@
 use native.Mathlib.Omega.{arith}
-use borrow.Author.Rules.{rules}
 use Rattle.flash.proofs.Loops.{erased_part}
 use Rattle.flash.proofs.steps.erase_at.Goals as goal
 

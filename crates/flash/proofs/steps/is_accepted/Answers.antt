@@ -1,4 +1,3 @@
-use borrow.Author.Rules.{rules}
 use Rattle.flash.proofs.steps.is_accepted.Goals as goal
 
 pub returns-in-Erase : goal.returns-in-Erase

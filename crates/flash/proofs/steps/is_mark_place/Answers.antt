@@ -1,4 +1,3 @@
-use borrow.Author.Rules.{rules}
 use Rattle.flash.specs.Steps.{mark_place}
 use Rattle.flash.proofs.steps.is_mark_place.Goals as goal
 

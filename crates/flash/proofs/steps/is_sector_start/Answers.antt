@@ -1,4 +1,3 @@
-use borrow.Author.Rules.{rules}
 use Rattle.flash.specs.Steps.{sector_start}
 use Rattle.flash.proofs.steps.is_sector_start.Goals as goal
 

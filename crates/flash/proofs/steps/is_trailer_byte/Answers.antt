@@ -1,4 +1,3 @@
-use borrow.Author.Rules.{rules}
 use Rattle.flash.specs.Steps.{trailer_byte}
 use Rattle.flash.proofs.steps.is_trailer_byte.Goals as goal
 

@@ -1,5 +1,4 @@
 use native.Mathlib.Omega.{arith}
-use borrow.Author.Rules.{rules}
 use Rattle.flash.proofs.Loops.{written_start}
 use Rattle.flash.proofs.steps.write_at.Goals as goal
 

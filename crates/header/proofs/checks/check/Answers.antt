@@ -1,5 +1,4 @@
 use native.Mathlib.Omega.{arith}
-use borrow.Author.Rules.{rules}
 use borrow.Author.Tests.{le-ltb, eq-eqb, ne_eqb}
 use Rattle.header.specs.Checks.{header_check}
 use Rattle.header.proofs.Numbers.{too_narrow, wide_enough}

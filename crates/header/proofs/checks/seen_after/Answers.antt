@@ -1,4 +1,3 @@
-use borrow.Author.Rules.{rules}
 use Rattle.header.proofs.checks.seen_after.Goals as goal
 
 pub returns : goal.returns

@@ -1,5 +1,4 @@
 use mathlib.Core.Path.{sym, ◌∙◌}
-use borrow.Author.Rules.{rules}
 use borrow.Author.Tests.{ne_eqb}
 use Rattle.header.specs.Checks.{version_of}
 use Rattle.header.proofs.checks.version_of.Goals as goal

@@ -1,5 +1,4 @@
 use native.Mathlib.Omega.{arith}
-use borrow.Author.Rules.{rules}
 use Rattle.header.specs.Numbers.{number_at}
 use Rattle.header.proofs.Numbers.{past}
 use Rattle.header.proofs.number.u16_at.Goals as goal

@@ -1,5 +1,4 @@
 use native.Mathlib.Omega.{arith}
-use borrow.Author.Rules.{rules}
 use Rattle.header.proofs.Numbers.{past, two_parts}
 use Rattle.header.proofs.number.u32_at.Goals as goal
 

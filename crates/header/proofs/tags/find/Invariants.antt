@@ -1,11 +1,7 @@
 use Prim.Native.Nat.{◌-◌}
-use mathlib.Core.Path.{◌≡◌, refl, sym, ◌∙◌}
-use native.Mathlib.Omega.{arith}
-use borrow.Author.Rules.{rules}
+use mathlib.Core.Path.{◌≡◌}
 use Rattle.header.specs.Lookup.{first}
 use Rattle.header.specs.Walk.{walk}
-use Rattle.header.proofs.Lookups.{stops, pads, finds, passes}
-use Rattle.header.proofs.Walk.{on}
 use Rattle.header.proofs.tags.find.Given as goal
 
 abbrev pub invariant-loop-number : goal.invariant-loop-number

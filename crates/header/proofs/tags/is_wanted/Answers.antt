@@ -1,4 +1,3 @@
-use borrow.Author.Rules.{rules}
 use Rattle.header.proofs.tags.is_wanted.Goals as goal
 
 pub returns-in-Any : goal.returns-in-Any

@@ -1,4 +1,3 @@
-use borrow.Author.Rules.{rules}
 use Rattle.loader.specs.Decisions.{decision}
 use Rattle.loader.proofs.decisions.decide.Goals as goal
 

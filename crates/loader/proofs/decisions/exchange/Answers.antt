@@ -1,4 +1,3 @@
-use borrow.Author.Rules.{rules}
 use Rattle.slots.proofs.Answered.{exchange_told}
 use Rattle.loader.proofs.decisions.exchange.Goals as goal
 

@@ -1,4 +1,3 @@
-use borrow.Author.Rules.{rules}
 use Rattle.slots.proofs.Answered.{renewal_told}
 use Rattle.loader.specs.Decisions.{finish}
 use Rattle.loader.proofs.decisions.finish.Goals as goal

@@ -1,4 +1,3 @@
-use borrow.Author.Rules.{rules}
 use borrow.Author.Tests.{eq-eqb, ne_eqb}
 use Rattle.slots.proofs.Answered.{image_told}
 use Rattle.loader.specs.Decisions.{passed_over}

@@ -1,5 +1,4 @@
 use mathlib.Core.Path.{◌∙◌}
-use borrow.Author.Rules.{rules}
 use borrow.Author.Tests.{eq-eqb, ne_eqb}
 use Rattle.slots.proofs.Answered.{progress_told}
 use Rattle.loader.proofs.ByProgress.{at_refusal, at_progress}

@@ -1,4 +1,3 @@
-use borrow.Author.Rules.{rules}
 use borrow.Author.Tests.{eq-eqb, le-ltb, lt-ltb, ne_eqb}
 use Rattle.loader.specs.Checks.{version_rule}
 use Rattle.loader.proofs.decisions.version_rule.Goals as goal

@@ -1,6 +1,5 @@
 use mathlib.Core.Path.{◌∙◌}
 use native.Mathlib.Omega.{arith}
-use borrow.Author.Rules.{rules}
 use Rattle.flash.proofs.Areas.{valid}
 use Rattle.slots.proofs.Answered.{progress_told}
 use Rattle.slots.proofs.Reached.{new_at, new-refused, updated-refused, flags-says}

@@ -1,4 +1,3 @@
-use borrow.Author.Rules.{rules}
 use Rattle.slots.proofs.Answered.{sound_told, state_told}
 use Rattle.loader.specs.Requests.{confirming}
 use Rattle.loader.proofs.requests.confirm.Goals as goal

@@ -1,5 +1,4 @@
 use mathlib.Core.Path.{◌∙◌}
-use borrow.Author.Rules.{rules}
 use Rattle.slots.proofs.Answered.{progress_told}
 use Rattle.slots.proofs.Reached.{new_at, new-refused}
 use Rattle.loader.specs.Requests.{swap_begun}

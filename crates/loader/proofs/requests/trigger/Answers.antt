@@ -1,4 +1,3 @@
-use borrow.Author.Rules.{rules}
 use Rattle.slots.proofs.Answered.{renewal_told}
 use Rattle.loader.specs.Requests.{triggering}
 use Rattle.loader.proofs.requests.trigger.Goals as goal

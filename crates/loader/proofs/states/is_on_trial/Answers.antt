@@ -1,4 +1,3 @@
-use borrow.Author.Rules.{rules}
 use Rattle.slots.proofs.Answered.{sound_told}
 use Rattle.loader.proofs.states.is_on_trial.Goals as goal
 

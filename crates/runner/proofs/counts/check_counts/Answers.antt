@@ -1,4 +1,3 @@
-use borrow.Author.Rules.{rules}
 use Rattle.runner.specs.Counts.{counts_check}
 use Rattle.runner.proofs.counts.check_counts.Goals as goal
 

@@ -1,4 +1,3 @@
-use borrow.Author.Rules.{rules}
 use Rattle.runner.proofs.counts.with_step.Goals as goal
 
 pub returns-in-Erase : goal.returns-in-Erase

@@ -1,4 +1,3 @@
-use borrow.Author.Rules.{rules}
 use Rattle.runner.proofs.one_step.advance.Goals as goal
 
 pub returns : goal.returns

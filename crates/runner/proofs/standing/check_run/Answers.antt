@@ -1,5 +1,4 @@
 use native.Mathlib.Omega.{arith}
-use borrow.Author.Rules.{rules}
 use borrow.Author.Tests.{le-leb, lt-leb, eq-eqb, ne_eqb}
 use Rattle.runner.specs.Runs.{run_check}
 use Rattle.runner.proofs.standing.check_run.Goals as goal

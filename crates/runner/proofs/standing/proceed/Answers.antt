@@ -2,7 +2,6 @@ use Prim.Native.Nat.{ℕ, ◌<◌}
 use mathlib.Core.Bool.{Bool, true, false}
 use mathlib.Core.Path.{◌≡◌, sym, ◌∙◌}
 use native.Mathlib.Omega.{arith}
-use borrow.Author.Rules.{rules}
 use Rattle.compare.proofs.Tests.{never}
 use Rattle.loader.specs.Checks.{image_checks}
 use Rattle.runner.proofs.Turns.{due, met_last, met_boot, met_refused, met_step}

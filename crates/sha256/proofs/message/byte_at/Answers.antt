@@ -1,4 +1,4 @@
-use Rattle.std.proofs.Common.{◌∙◌, arith, rules}
+use Rattle.std.proofs.Common.{◌∙◌, arith}
 use Rattle.sha256.proofs.Padding.{in_first, in_second, in_padding}
 use Rattle.sha256.proofs.message.byte_at.Goals as goal
 

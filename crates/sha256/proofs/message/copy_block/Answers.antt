@@ -1,5 +1,4 @@
-use Rattle.std.proofs.Common.{◌≡◌, ℕ, ◌+◌, ◌-◌, ◌<◌, ◌≤◌, ◌++◌, length, get_or, zero-add, arith, length-set, rules}
-use Rattle.sha256.specs.Message.{pad_to}
+use Rattle.std.proofs.Common.{zero-add, arith, length-set, rules}
 use Rattle.sha256.proofs.Parsing.{stored}
 use Rattle.sha256.proofs.message.copy_block.Goals as goal
 

@@ -1,6 +1,5 @@
-use Rattle.std.proofs.Common.{◌≡◌, ℕ, ◌+◌, ◌-◌, ◌<◌, ◌≤◌, ◌++◌, length, get_or, zero-add, arith, length-set, rules}
+use Rattle.std.proofs.Common.{◌≡◌, ℕ, ◌+◌, ◌-◌, ◌<◌, ◌≤◌, ◌++◌, length, get_or}
 use Rattle.sha256.specs.Message.{pad_to}
-use Rattle.sha256.proofs.Parsing.{stored}
 use Rattle.sha256.proofs.message.copy_block.Given as goal
 
 abbrev pub invariant-loop-k : goal.invariant-loop-k

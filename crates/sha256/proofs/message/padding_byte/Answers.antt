@@ -1,4 +1,3 @@
-use Rattle.std.proofs.Common.{rules}
 use Rattle.sha256.proofs.Padding.{mark, gap, count}
 use Rattle.sha256.proofs.message.padding_byte.Goals as goal
 

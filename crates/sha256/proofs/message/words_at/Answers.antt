@@ -1,4 +1,4 @@
-use Rattle.std.proofs.Common.{◌≡◌, ◌-◌, ◌≤◌, length, take, sym, refl, ◌∙◌, add-one, arith, length-set, take_all, take-suc-set, rules}
+use Rattle.std.proofs.Common.{◌≡◌, sym, refl, ◌∙◌, add-one, arith, length-set, take_all, take-suc-set, rules}
 use Rattle.sha256.specs.Message.{words_at}
 use Rattle.sha256.proofs.message.words_at.Goals as goal
 

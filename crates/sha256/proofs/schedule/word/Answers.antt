@@ -1,4 +1,4 @@
-use Rattle.std.proofs.Common.{rules, le-ltb, lt-ltb}
+use Rattle.std.proofs.Common.{le-ltb, lt-ltb}
 use Rattle.sha256.specs.Ring.{ring_word}
 use Rattle.sha256.proofs.schedule.word.Goals as goal
 

@@ -1,4 +1,3 @@
-use Rattle.std.proofs.Common.{rules}
 use Rattle.sha256.specs.Words.{σ₁}
 use Rattle.sha256.proofs.word.small_sigma1.Goals as goal
 

@@ -1,5 +1,4 @@
 use Prim.Native.Nat.{◌*◌}
-use borrow.Author.Rules.{rules}
 use borrow.Author.Tests.{le-ltb, lt-ltb}
 use Rattle.slots.specs.Exchange.{exchange_of}
 use Rattle.slots.proofs.exchanges.exchange.Goals as goal

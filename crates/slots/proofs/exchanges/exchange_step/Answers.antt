@@ -1,6 +1,5 @@
 use Prim.Native.Nat.{◌^◌, ◌<◌}
 use native.Mathlib.Omega.{arith}
-use borrow.Author.Rules.{rules}
 use lib.ListN.{length}
 use Rattle.slots.specs.Exchange.{exchange_step}
 use Rattle.slots.specs.Places.{offset, Within}

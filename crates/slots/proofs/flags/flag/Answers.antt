@@ -1,4 +1,3 @@
-use borrow.Author.Rules.{rules}
 use Rattle.slots.specs.Flags.{flag}
 use Rattle.slots.proofs.flags.flag.Goals as goal
 

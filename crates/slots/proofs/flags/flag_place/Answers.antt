@@ -1,6 +1,5 @@
 use mathlib.Core.Path.{refl}
 use native.Mathlib.Omega.{arith}
-use borrow.Author.Rules.{rules}
 use Rattle.slots.specs.Flags.{flag_at}
 use Rattle.slots.proofs.flags.flag_place.Goals as goal
 

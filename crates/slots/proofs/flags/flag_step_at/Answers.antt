@@ -1,4 +1,3 @@
-use borrow.Author.Rules.{rules}
 use Rattle.slots.specs.Flags.{flag_step}
 use Rattle.slots.proofs.flags.flag_step_at.Goals as goal
 

@@ -1,4 +1,3 @@
-use borrow.Author.Rules.{rules}
 use Rattle.slots.specs.Flags.{pair}
 use Rattle.slots.proofs.flags.is_pair.Goals as goal
 

@@ -1,10 +1,5 @@
-use Prim.Native.Nat.{◌-◌, ◌≤◌}
-use mathlib.Core.Path.{◌≡◌, refl}
+use mathlib.Core.Path.{refl}
 use native.Mathlib.Omega.{arith}
-use borrow.Author.Rules.{rules}
-use lib.ListN.{drop}
-use Rattle.compare.specs.Compare.{all}
-use Rattle.slots.specs.Flags.{flags}
 use Rattle.slots.proofs.Reading.{rest_stop, rest_go, rest_end}
 use Rattle.slots.proofs.Pairs.{is-pair, pair_rest}
 use Rattle.slots.proofs.flags.is_rest.Goals as goal

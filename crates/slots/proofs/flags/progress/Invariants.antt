@@ -1,11 +1,7 @@
 use Prim.Native.Nat.{◌+◌, ◌-◌, ◌≤◌}
-use mathlib.Core.Path.{◌≡◌, refl, ◌∙◌}
-use native.Mathlib.Omega.{arith}
-use borrow.Author.Rules.{rules}
+use mathlib.Core.Path.{◌≡◌}
 use lib.ListN.{drop}
 use Rattle.slots.specs.Flags.{flags, lowest_unfinished}
-use Rattle.slots.proofs.Reading.{zeros_go, progress_done, progress-current}
-use Rattle.slots.proofs.Pairs.{is-pair, pair-zeros}
 use Rattle.slots.proofs.flags.progress.Given as goal
 
 abbrev pub invariant-loop-i : goal.invariant-loop-i

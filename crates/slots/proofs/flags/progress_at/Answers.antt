@@ -1,5 +1,4 @@
 use native.Mathlib.Nat.{add-zero}
-use borrow.Author.Rules.{rules}
 use borrow.Author.Tests.{ne_eqb}
 use Rattle.slots.specs.Flags.{stage, progress_at}
 use Rattle.slots.proofs.Reading.{not_new}

@@ -1,7 +1,6 @@
 use Prim.Native.Nat.{◌*◌}
 use mathlib.Core.Path.{◌∙◌}
 use native.Mathlib.Omega.{arith}
-use borrow.Author.Rules.{rules}
 use Rattle.slots.specs.Places.{image_of}
 use Rattle.slots.proofs.Sectors.{slot_in, part_of}
 use Rattle.slots.proofs.places.image.Goals as goal

@@ -1,6 +1,5 @@
 use mathlib.Core.Path.{sym}
 use native.Mathlib.Omega.{arith}
-use borrow.Author.Rules.{rules}
 use Rattle.slots.proofs.Sectors.{offset-sector, offset_swap}
 use Rattle.slots.proofs.places.offset.Goals as goal
 

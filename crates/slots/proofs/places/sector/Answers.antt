@@ -1,6 +1,5 @@
 use mathlib.Core.Path.{◌∙◌}
 use native.Mathlib.Omega.{arith}
-use borrow.Author.Rules.{rules}
 use Rattle.slots.specs.Places.{bytes_at}
 use Rattle.slots.proofs.Sectors.{offset_in, part_of, sector-is}
 use Rattle.slots.proofs.places.sector.Goals as goal

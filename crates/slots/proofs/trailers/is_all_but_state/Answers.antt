@@ -1,6 +1,5 @@
 use mathlib.Core.Path.{sym}
 use native.Mathlib.Omega.{arith}
-use borrow.Author.Rules.{rules}
 use lib.Seq.{length-take-le}
 use Rattle.slots.proofs.Renewals.{all_read}
 use Rattle.slots.proofs.trailers.is_all_but_state.Goals as goal

@@ -1,4 +1,3 @@
-use borrow.Author.Rules.{rules}
 use Rattle.slots.specs.Trailers.{renewed_to}
 use Rattle.slots.proofs.trailers.is_renewed.Goals as goal
 

@@ -1,4 +1,3 @@
-use borrow.Author.Rules.{rules}
 use Rattle.slots.proofs.Renewals.{sound_read}
 use Rattle.slots.proofs.trailers.is_sound.Goals as goal
 

@@ -1,4 +1,3 @@
-use borrow.Author.Rules.{rules}
 use Rattle.slots.specs.Trailers.{sound_with}
 use Rattle.slots.proofs.trailers.is_sound_with.Goals as goal
 

@@ -1,4 +1,3 @@
-use borrow.Author.Rules.{rules}
 use Rattle.slots.specs.Trailers.{renew}
 use Rattle.slots.proofs.trailers.renew.Goals as goal
 

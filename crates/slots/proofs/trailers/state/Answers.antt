@@ -1,4 +1,3 @@
-use borrow.Author.Rules.{rules}
 use Rattle.slots.specs.Trailers.{state_of}
 use Rattle.slots.proofs.trailers.state.Goals as goal
 

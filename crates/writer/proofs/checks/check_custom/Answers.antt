@@ -1,12 +1,10 @@
-use Prim.Native.Nat.{◌-◌, ◌≤◌}
-use mathlib.Core.Path.{◌≡◌, refl, sym, ◌∙◌}
+use mathlib.Core.Path.{refl, sym, ◌∙◌}
 use native.Mathlib.Omega.{arith}
-use lib.ListN.{length}
 use borrow.Author.Rules.{rules}
 use borrow.Author.Tests.{lt-ltb}
 use Rattle.header.proofs.Walk.{on}
-use Rattle.writer.specs.Custom.{tags_of, well_formed, custom_check}
-use Rattle.writer.proofs.Run.{well_formed_from, well_formed_lem, ends_early, has_padding, has_named, one_further}
+use Rattle.writer.specs.Custom.{custom_check}
+use Rattle.writer.proofs.Run.{well_formed_lem, ends_early, has_padding, has_named, one_further}
 use Rattle.writer.proofs.checks.check_custom.Goals as goal
 
 pub returns-then-end-gt-LONGEST_RUN : goal.returns-then-end-gt-LONGEST_RUN

@@ -1,4 +1,3 @@
-use borrow.Author.Rules.{rules}
 use Rattle.header.proofs.Refusals.{first_one}
 use Rattle.compare.proofs.Tests.{tests}
 use Rattle.writer.specs.Writer.{fields_check}

@@ -1,4 +1,3 @@
-use borrow.Author.Rules.{rules}
 use Rattle.writer.proofs.Stores.{then_stored, length-le}
 use Rattle.writer.proofs.pieces.put_head.Goals as goal
 

@@ -1,10 +1,7 @@
 use Prim.Native.Nat.{◌-◌, ◌≤◌}
 use mathlib.Core.List.{◌++◌}
-use mathlib.Core.Path.{◌≡◌, refl}
-use native.Mathlib.Omega.{arith}
-use lib.ListN.{length, take, replicate, length-set}
-use borrow.Author.Rules.{rules}
-use Rattle.writer.proofs.Stores.{no_padding, one-more-padding, all-padding}
+use mathlib.Core.Path.{◌≡◌}
+use lib.ListN.{length, take, replicate}
 use Rattle.writer.proofs.pieces.put_padding.Given as goal
 
 abbrev pub invariant-loop-i : goal.invariant-loop-i

@@ -1,5 +1,4 @@
 use lib.ListN.{length-append}
-use borrow.Author.Rules.{rules}
 use Rattle.writer.specs.Layout.{tag_bytes}
 use Rattle.writer.proofs.Stores.{then_stored, length-le}
 use Rattle.writer.proofs.pieces.put_tag.Goals as goal

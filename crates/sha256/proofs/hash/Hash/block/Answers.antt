@@ -1,6 +1,6 @@
-use Rattle.std.proofs.Common.{◌-◌, ◌*◌, ◌≤◌, arith, rules}
+use Rattle.std.proofs.Common.{arith, rules}
 use Rattle.sha256.proofs.Parsing.{length-words}
-use Rattle.sha256.proofs.Rounds.{Done, none, four_more, all}
+use Rattle.sha256.proofs.Rounds.{none, four_more, all}
 use Rattle.sha256.proofs.hash.Hash.block.Goals as goal
 
 pub loop-i-init : goal.loop-i-init

@@ -1,6 +1,5 @@
-use Rattle.std.proofs.Common.{◌-◌, ◌*◌, ◌≤◌, arith, rules}
-use Rattle.sha256.proofs.Parsing.{length-words}
-use Rattle.sha256.proofs.Rounds.{Done, none, four_more, all}
+use Rattle.std.proofs.Common.{◌-◌, ◌*◌, ◌≤◌}
+use Rattle.sha256.proofs.Rounds.{Done}
 use Rattle.sha256.proofs.hash.Hash.block.Given as goal
 
 abbrev pub invariant-loop-i : goal.invariant-loop-i

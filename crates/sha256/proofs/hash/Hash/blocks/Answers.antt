@@ -1,4 +1,4 @@
-use Rattle.std.proofs.Common.{◌≡◌, ◌-◌, ◌≤◌, refl, ap, ◌∙◌, add-one, arith, rules}
+use Rattle.std.proofs.Common.{refl, ap, ◌∙◌, add-one, arith, rules}
 use Rattle.sha256.specs.Digest.{hashed}
 use Rattle.sha256.proofs.hash.Hash.blocks.Goals as goal
 

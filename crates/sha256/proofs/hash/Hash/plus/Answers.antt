@@ -1,4 +1,3 @@
-use Rattle.std.proofs.Common.{rules}
 use Rattle.sha256.specs.Rounds.{plus}
 use Rattle.sha256.proofs.hash.Hash.plus.Goals as goal
 

@@ -1,4 +1,3 @@
-use Rattle.std.proofs.Common.{rules}
 use Rattle.sha256.specs.Rounds.{round, T₁, T₂}
 use Rattle.sha256.proofs.hash.Hash.round.Goals as goal
 

@@ -1,4 +1,3 @@
-use Rattle.std.proofs.Common.{rules}
 use Rattle.sha256.proofs.hash.Hash.turn.Goals as goal
 
 pub returns : goal.returns
