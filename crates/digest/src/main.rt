@@ -4,58 +4,55 @@
 #![tactic(auto)]
 
 use files::fill;
-use libc::STDIN_FILENO;
 use sha256::{DigestAnswer, Hash};
+use std::io;
+use std::io::Read;
 
-// What was read and hashed, and whether a read failed.
+// What was read and hashed, and why a read failed, if one did.
 #[derive(Drop)]
 struct Outcome {
     answer: DigestAnswer,
-    failed: bool,
+    failure: Option<io::Error>,
 }
 
 // The digest of what is left of the input. After 4 GiB the answer refuses.
-fn digest_of(fd: i32) -> Outcome {
-    let mut buf = io::large_buffer();
+fn digest_of(reader: &mut impl Read) -> Outcome {
+    let mut buf = [0u8; 65_536];
     let mut hash = Hash::new();
     for i in 0..65536 {
-        let got = fill(fd, &mut buf);
+        let got = fill(reader, &mut buf);
         let n = got.count;
         if n < 65536 {
             return Outcome {
                 answer: sha256::digest_after(hash, 1024 * i, &buf[..n]),
-                failed: got.failed,
+                failure: got.failure,
             };
         }
         hash = hash.blocks(&buf);
     }
     Outcome {
         answer: sha256::digest_after(hash, 1024 * 65536, &buf),
-        failed: false,
+        failure: None,
     }
 }
 
-fn report(outcome: Outcome, path: &[u8]) {
-    if outcome.failed {
-        os::fail(path);
-        return;
+fn report(rt: &(impl Print + Eprint), outcome: Outcome, path: &[u8]) -> io::Result<()> {
+    if let Some(e) = outcome.failure {
+        files::fail(rt, path, e);
+        return Ok(());
     }
-    let answer = outcome.answer;
-    show::digest(answer);
+    show::digest(rt, outcome.answer)
 }
 
-fn main() {
-    let mut path = io::buffer();
-    if os::arg_count() < 2 {
-        report(digest_of(STDIN_FILENO), b"standard input");
-        return;
+fn main(rt: HostRuntime) -> io::Result<()> {
+    let mut path = [0u8; 4096];
+    if !files::is_given(&rt, 1) {
+        return report(&rt, digest_of(&mut rt.stdin()), b"standard input");
     }
-    let opened = files::open_argument(1, &mut path);
-    let fd = opened.fd;
-    if fd < 0 {
-        return;
-    }
+    let opened = files::open_argument(&rt, 1, &mut path);
     let n = opened.len;
-    report(digest_of(fd), &path[..n]);
-    libc::close(fd);
+    match opened.file {
+        Some(mut file) => report(&rt, digest_of(&mut file), &path[..n]),
+        None => Ok(()),
+    }
 }

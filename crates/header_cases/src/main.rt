@@ -7,21 +7,21 @@
 
 mod record;
 
-ghost use Rattle.std.specs.Prelude.{◌≤◌, ◌<◌};
+ghost use Rattle.std.specs.Prelude.{◌≤◌, ◌<◌, IfOk};
 
 use header::{Lookup, Wanted, byte_at, u16_at, u32_at};
-use libc::{STDIN_FILENO, STDOUT_FILENO};
 use record::{HEAD, KEYS, fields};
 use records::{copy, part};
+use std::io;
 
 // F: the place and the length of a tag's content.
-fn find_tag(header: &[u8], kind: u16) {
+fn find_tag(rt: &impl Print, header: &[u8], kind: u16) -> io::Result<()> {
     match header::find_tag(header, kind) {
         Lookup::Found(t) => {
-            show::field(t.at as u64);
-            show::decimal(t.len as u64);
+            show::field(rt, t.at as u64)?;
+            show::decimal(rt, t.len as u64)
         }
-        Lookup::Refused(number) => show::refusal(number),
+        Lookup::Refused(number) => show::refusal(rt, number),
     }
 }
 
@@ -35,75 +35,95 @@ fn wanted(head: &[u8]) -> Wanted {
 }
 
 // L: the same from a place on, of any type or of one, with the type and with where the walk goes on.
-fn next_tag(header: &[u8], head: &[u8]) {
+fn next_tag(rt: &impl Print, header: &[u8], head: &[u8]) -> io::Result<()> {
     match header::next_tag(header, u16_at(head, 26) as usize, wanted(head)) {
         Lookup::Found(t) => {
-            show::field(t.kind as u64);
-            show::field(t.at as u64);
-            show::field(t.len as u64);
-            show::decimal(t.next as u64);
+            show::field(rt, t.kind as u64)?;
+            show::field(rt, t.at as u64)?;
+            show::field(rt, t.len as u64)?;
+            show::decimal(rt, t.next as u64)
         }
-        Lookup::Refused(number) => show::refusal(number),
+        Lookup::Refused(number) => show::refusal(rt, number),
     }
 }
 
 // V: the verdict.
-fn verify(image: &[u8], signed: bool) {
+fn verify(rt: &impl Print, image: &[u8], signed: bool) -> io::Result<()> {
     let number = image::verify(image, signed);
     if number != 0 {
-        show::refusal(number);
-        return;
+        return show::refusal(rt, number);
     }
-    io::write_all(STDOUT_FILENO, b"PASS\n");
+    println!(rt; "PASS")
 }
 
 // N: the version.
-fn version_of(image: &[u8]) {
+fn version_of(rt: &impl Print, image: &[u8]) -> io::Result<()> {
     let v = header::version_of(image);
     if v.number != 0 {
-        show::refusal(v.number);
-        return;
+        return show::refusal(rt, v.number);
     }
-    show::decimal(v.version as u64);
+    show::decimal(rt, v.version as u64)
 }
 
 // D: the digest to be signed.
-fn digest_to_sign(head: &[u8], firmware: &[u8], custom: &[u8], keys: &[u8]) {
+fn digest_to_sign(
+    rt: &impl Print,
+    head: &[u8],
+    firmware: &[u8],
+    custom: &[u8],
+    keys: &[u8],
+) -> io::Result<()> {
     let mut hint = [0u8; 32];
     copy(part(keys, 0, 32), &mut hint);
-    show::digest(writer::digest_to_sign(fields(head), firmware, custom, &hint));
+    show::digest(
+        rt,
+        writer::digest_to_sign(fields(head), firmware, custom, &hint),
+    )
 }
 
 // H: the number and the buffer afterwards.
-fn write_header(buffer: &mut [u8], head: &[u8], firmware: &[u8], custom: &[u8], keys: &[u8]) {
+fn write_header(
+    rt: &impl Print,
+    buffer: &mut [u8],
+    head: &[u8],
+    firmware: &[u8],
+    custom: &[u8],
+    keys: &[u8],
+) -> io::Result<()> {
     let mut hint = [0u8; 32];
     copy(part(keys, 0, 32), &mut hint);
     let mut signature = [0u8; 64];
     copy(part(keys, 32, 64), &mut signature);
     let number = writer::write_header(buffer, fields(head), firmware, custom, &hint, &signature);
-    show::field(number as u64);
-    show::hex(buffer);
+    show::field(rt, number as u64)?;
+    show::hex(rt, buffer)
 }
 
 // The same with a buffer of as many bytes as the record says, at most 300.
-fn write_into_buffer(head: &[u8], firmware: &[u8], custom: &[u8], keys: &[u8]) {
+fn write_into_buffer(
+    rt: &impl Print,
+    head: &[u8],
+    firmware: &[u8],
+    custom: &[u8],
+    keys: &[u8],
+) -> io::Result<()> {
     let mut space = [0xA5u8; 300];
-    let n = io::count(u16_at(head, 26) as isize, &space);
-    write_header(&mut space[..n], head, firmware, custom, keys);
+    let n = (u16_at(head, 26) as usize).min(300);
+    write_header(rt, &mut space[..n], head, firmware, custom, keys)
 }
 
 // Prints the rest of a line; W is a tag's content. A letter that is none of these prints nothing.
-fn answer(head: &[u8], body: &[u8], custom: &[u8], keys: &[u8]) {
+fn answer(rt: &impl Print, head: &[u8], body: &[u8], custom: &[u8], keys: &[u8]) -> io::Result<()> {
     let kind = u16_at(head, 2);
     match byte_at(head, 0) {
-        b'F' => find_tag(body, kind),
-        b'L' => next_tag(body, head),
-        b'W' => show::hex(header::view(body, kind)),
-        b'V' => verify(body, byte_at(head, 1) == 1),
-        b'N' => version_of(body),
-        b'D' => digest_to_sign(head, body, custom, keys),
-        b'H' => write_into_buffer(head, body, custom, keys),
-        _ => {}
+        b'F' => find_tag(rt, body, kind),
+        b'L' => next_tag(rt, body, head),
+        b'W' => show::hex(rt, header::view(body, kind)),
+        b'V' => verify(rt, body, byte_at(head, 1) == 1),
+        b'N' => version_of(rt, body),
+        b'D' => digest_to_sign(rt, head, body, custom, keys),
+        b'H' => write_into_buffer(rt, head, body, custom, keys),
+        _ => Ok(()),
     }
 }
 
@@ -119,11 +139,11 @@ fn keys_len(command: u8) -> usize
 }
 
 // Prints the line of the first record, and answers how many bytes it takes.
-fn case(s: &[u8]) -> usize
-    ensures { 0 < result }
+fn case(rt: &impl Print, s: &[u8]) -> io::Result<usize>
+    ensures { IfOk result (λ size. 0 < size) }
 {
     let n = byte_at(s, 0) as usize;
-    show::label(part(s, 1, n));
+    show::label(rt, part(s, 1, n))?;
     let head = part(s, 1 + n, HEAD);
     let body_len = u32_at(head, 4) as usize;
     let custom_len = u32_at(head, 8) as usize;
@@ -132,27 +152,29 @@ fn case(s: &[u8]) -> usize
     let custom = body + body_len;
     let keys = custom + custom_len;
     answer(
+        rt,
         head,
         part(s, body, body_len),
         part(s, custom, custom_len),
         part(s, keys, keys_len),
-    );
-    keys + keys_len
+    )?;
+    Ok(keys + keys_len)
 }
 
-fn cases(s: &[u8]) {
+fn cases(rt: &impl Print, s: &[u8]) -> io::Result<()> {
     let mut p = 0;
     while p < s.len() {
-        let size = case(part(s, p, s.len() - p));
+        let size = case(rt, part(s, p, s.len() - p))?;
         if s.len() - p < size {
-            return;
+            break;
         }
         p += size;
     }
+    Ok(())
 }
 
-fn main() {
+fn main(rt: HostRuntime) -> io::Result<()> {
     let mut space = [0u8; 131_072];
-    let n = io::read_full(STDIN_FILENO, &mut space);
-    cases(&space[..n]);
+    let n = files::read_full(&mut rt.stdin(), &mut space)?;
+    cases(&rt, &space[..n])
 }

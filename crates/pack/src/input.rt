@@ -1,114 +1,99 @@
 // The files that the arguments name. What goes wrong with one is said on standard error.
-ghost use Rattle.io.specs.Counts.{IsPrefixLen};
+ghost use Rattle.std.specs.Prelude.{◌≤◌, length, IfOk, IfSome};
 
-use files::{Filled, fill};
-use libc::STDERR_FILENO;
+use files::{argument, open_argument, read_full};
+use std::env::Env;
+use std::io;
+use std::io::Read;
+use std::rt::Files;
 
-// A file's bytes, as far as the buffer goes, and whether there are more.
+// How many bytes of a file came, as far as the buffer goes, and whether there are more.
 #[derive(Drop)]
 struct Contents {
     count: usize,
     more: bool,
-    failed: bool,
 }
 
-pub(crate) fn say(text: &[u8]) {
-    io::write_all(STDERR_FILENO, text);
-    io::write_all(STDERR_FILENO, b"\n");
+pub(crate) fn say(rt: &impl Eprint, text: &str) {
+    let _ = eprintln!(rt; "{text}");
 }
 
-fn read_open(fd: i32, buf: &mut [u8]) -> Contents
-    ensures { IsPrefixLen result.count buf.new }
+fn read_open(reader: &mut impl Read, buf: &mut [u8]) -> io::Result<Contents>
+    ensures { IfOk result (λ got. got.count ≤ length buf.new) }
 {
-    let got = fill(fd, buf);
-    if got.failed {
-        return Contents {
-            count: got.count,
-            more: false,
-            failed: true,
-        };
-    }
+    let count = read_full(reader, buf)?;
     let mut next = [0u8; 1];
-    let after = fill(fd, &mut next);
-    Contents {
-        count: got.count,
-        more: after.count != 0,
-        failed: after.failed,
-    }
+    let after = read_full(reader, &mut next)?;
+    Ok(Contents {
+        count,
+        more: after != 0,
+    })
 }
 
-// The file that argument i names.
-fn read(i: usize, buf: &mut [u8]) -> Contents
-    ensures { IsPrefixLen result.count buf.new }
+// The file that argument i names; none where something went wrong, which was said then.
+fn read<R: Env + Files + Eprint>(rt: &R, i: usize, buf: &mut [u8]) -> Option<Contents>
+    ensures { IfSome result (λ got. got.count ≤ length buf.new) }
 {
-    let mut name = io::buffer();
-    let opened = files::open_argument(i, &mut name);
-    let fd = opened.fd;
-    if fd < 0 {
-        return Contents {
-            count: 0,
-            more: false,
-            failed: true,
-        };
+    let mut name = [0u8; 4096];
+    let opened = open_argument(rt, i, &mut name);
+    let n = opened.len;
+    let mut file = opened.file?;
+    match read_open(&mut file, buf) {
+        Ok(got) => Some(got),
+        Err(e) => {
+            files::fail(rt, &name[..n], e);
+            None
+        }
     }
-    let got = read_open(fd, buf);
-    if got.failed {
-        let n = opened.len;
-        os::fail(&name[..n]);
-    }
-    libc::close(fd);
-    got
 }
 
 // A file of at most as many bytes as the buffer has.
-pub(crate) fn read_most(i: usize, buf: &mut [u8], otherwise: &[u8]) -> Filled
-    ensures { IsPrefixLen result.count buf.new }
+pub(crate) fn read_most<R: Env + Files + Eprint>(
+    rt: &R,
+    i: usize,
+    buf: &mut [u8],
+    otherwise: &str,
+) -> Option<usize>
+    ensures { IfSome result (λ count. count ≤ length buf.new) }
 {
-    let got = read(i, buf);
+    let got = read(rt, i, buf)?;
     if got.more {
-        say(otherwise);
+        say(rt, otherwise);
+        return None;
     }
-    Filled {
-        count: got.count,
-        failed: got.failed || got.more,
-    }
+    Some(got.count)
 }
 
 // A file of just as many bytes as the buffer has.
-pub(crate) fn read_exact(i: usize, buf: &mut [u8], otherwise: &[u8]) -> bool {
-    let got = read_most(i, buf, otherwise);
-    if got.failed {
+pub(crate) fn read_exact<R: Env + Files + Eprint>(
+    rt: &R,
+    i: usize,
+    buf: &mut [u8],
+    otherwise: &str,
+) -> bool {
+    let Some(count) = read_most(rt, i, buf, otherwise) else {
         return false;
-    }
-    if got.count < buf.len() {
-        say(otherwise);
+    };
+    if count < buf.len() {
+        say(rt, otherwise);
         return false;
     }
     true
 }
 
 // Whether argument i is a dash.
-fn is_dash(i: usize) -> bool {
+fn is_dash(rt: &impl Env, i: usize) -> bool {
     let mut text = [0u8; 2];
-    if os::arg(i, &mut text) != 1 {
-        return false;
-    }
-    text[0] == b'-'
+    argument(rt, i, &mut text) == 1 && text[0] == b'-'
 }
 
-// A file's first bytes, or none where a dash stands for its name.
-pub(crate) fn read_start(i: usize, buf: &mut [u8]) -> Filled
-    ensures { IsPrefixLen result.count buf.new }
+// A file's first bytes, or none of them where a dash stands for its name.
+pub(crate) fn read_start<R: Env + Files + Eprint>(rt: &R, i: usize, buf: &mut [u8]) -> Option<usize>
+    ensures { IfSome result (λ count. count ≤ length buf.new) }
 {
-    if is_dash(i) {
-        return Filled {
-            count: 0,
-            failed: false,
-        };
+    if is_dash(rt, i) {
+        return Some(0);
     }
-    let got = read(i, buf);
-    Filled {
-        count: got.count,
-        failed: got.failed,
-    }
+    let got = read(rt, i, buf)?;
+    Some(got.count)
 }

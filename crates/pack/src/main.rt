@@ -13,8 +13,11 @@ mod texts;
 ghost use Rattle.std.specs.Prelude.{◌≡◌, replicate};
 ghost use Rattle.writer.specs.Writer.{write_check, buffer_after};
 
+use files::{argument, is_given};
 use input::{read_exact, read_most, read_start, say};
-use libc::{STDERR_FILENO, STDOUT_FILENO};
+use std::env::Env;
+use std::io;
+use std::rt::Files;
 use texts::{Texts, fields_in};
 use writer::Fields;
 
@@ -43,95 +46,93 @@ fn header_for(
     Header { number, bytes }
 }
 
-fn say_refusal(number: u32) {
-    io::write_all(STDERR_FILENO, b"REFUSE ");
-    io::print_decimal(STDERR_FILENO, number as u64);
-    say(b"");
+fn say_refusal(rt: &impl Eprint, number: u32) {
+    let _ = eprintln!(rt; "REFUSE {number}");
 }
 
-fn print_digest(fields: Fields, firmware: &[u8], custom: &[u8], hint: &[u8; 32]) {
+fn print_digest(
+    rt: &(impl Print + Eprint),
+    fields: Fields,
+    firmware: &[u8],
+    custom: &[u8],
+    hint: &[u8; 32],
+) -> io::Result<()> {
     let answer = writer::digest_to_sign(fields, firmware, custom, hint);
     if answer.number != 0 {
-        say_refusal(answer.number);
-        return;
+        say_refusal(rt, answer.number);
+        return Ok(());
     }
-    let bytes = answer.bytes;
-    show::hex(&bytes);
+    show::hex(rt, &answer.bytes)
 }
 
-fn print(bytes: &[u8]) -> bool {
-    if !io::write_all(STDOUT_FILENO, bytes) {
-        os::fail(b"standard output");
-        return false;
-    }
-    true
-}
-
-fn print_image(fields: Fields, firmware: &[u8], custom: &[u8], hint: &[u8; 32]) {
+fn print_image<R: Env + Files + Print + Eprint>(
+    rt: &R,
+    fields: Fields,
+    firmware: &[u8],
+    custom: &[u8],
+    hint: &[u8; 32],
+) -> io::Result<()> {
     let mut signature = [0u8; 64];
-    if !read_exact(7, &mut signature, b"the signature is not of 64 bytes") {
-        return;
+    if !read_exact(rt, 7, &mut signature, "the signature is not of 64 bytes") {
+        return Ok(());
     }
     let header = header_for(fields, firmware, custom, hint, &signature);
     if header.number != 0 {
-        say_refusal(header.number);
-        return;
+        say_refusal(rt, header.number);
+        return Ok(());
     }
-    let bytes = header.bytes;
-    if print(&bytes) {
-        print(firmware);
-    }
+    rt.write_all(&header.bytes)?;
+    rt.write_all(firmware)
 }
 
 // One byte more than a custom run may have is enough for the writer to refuse it.
-fn pack(fields: Fields, signed: bool) {
+fn pack<R: Env + Files + Print + Eprint>(rt: &R, fields: Fields, signed: bool) -> io::Result<()> {
     let mut firmware = [0u8; MOST_FIRMWARE];
     let mut custom = [0u8; 83];
     let mut hint = [0u8; 32];
-    let read = read_most(
-        1,
-        &mut firmware,
-        b"the firmware is longer than 261888 bytes",
-    );
-    if read.failed {
-        return;
+    let too_long = "the firmware is longer than 261888 bytes";
+    let Some(n) = read_most(rt, 1, &mut firmware, too_long) else {
+        return Ok(());
+    };
+    if !read_exact(rt, 5, &mut hint, "the hint is not of 32 bytes") {
+        return Ok(());
     }
-    if !read_exact(5, &mut hint, b"the hint is not of 32 bytes") {
-        return;
-    }
-    let run = read_start(6, &mut custom);
-    if run.failed {
-        return;
-    }
-    let n = read.count;
-    let k = run.count;
+    let Some(k) = read_start(rt, 6, &mut custom) else {
+        return Ok(());
+    };
     if signed {
-        print_image(fields, &firmware[..n], &custom[..k], &hint);
+        print_image(rt, fields, &firmware[..n], &custom[..k], &hint)
     } else {
-        print_digest(fields, &firmware[..n], &custom[..k], &hint);
+        print_digest(rt, fields, &firmware[..n], &custom[..k], &hint)
     }
 }
 
-fn fields_given() -> Texts {
-    let mut version = io::buffer();
-    let mut timestamp = io::buffer();
-    let mut kind = io::buffer();
-    let v = os::arg(2, &mut version);
-    let t = os::arg(3, &mut timestamp);
-    let k = os::arg(4, &mut kind);
+fn fields_given(rt: &impl Env) -> Texts {
+    let mut version = [0u8; 4096];
+    let mut timestamp = [0u8; 4096];
+    let mut kind = [0u8; 4096];
+    let v = argument(rt, 2, &mut version);
+    let t = argument(rt, 3, &mut timestamp);
+    let k = argument(rt, 4, &mut kind);
     fields_in(&version[..v], &timestamp[..t], &kind[..k])
 }
 
-fn main() {
-    let count = os::arg_count();
-    if count < 7 || 8 < count {
-        say(b"usage: pack FIRMWARE VERSION TIMESTAMP TYPE HINT CUSTOM [SIGNATURE]");
+fn main(rt: HostRuntime) {
+    if !is_given(&rt, 6) || is_given(&rt, 8) {
+        say(
+            &rt,
+            "usage: pack FIRMWARE VERSION TIMESTAMP TYPE HINT CUSTOM [SIGNATURE]",
+        );
         return;
     }
-    match fields_given() {
-        Texts::Fields(fields) => pack(fields, count == 8),
-        Texts::NoVersion => say(b"the version is no decimal number below 2^32"),
-        Texts::NoTimestamp => say(b"the timestamp is no decimal number below 2^64"),
-        Texts::NoType => say(b"the type is no decimal number below 2^16"),
+    match fields_given(&rt) {
+        Texts::Fields(fields) => {
+            if let Err(e) = pack(&rt, fields, is_given(&rt, 7)) {
+                files::fail(&rt, b"standard output", e);
+            }
+        }
+        Texts::NoVersion => say(&rt, "the version is no decimal number below 2^32"),
+        Texts::NoTimestamp => say(&rt, "the timestamp is no decimal number below 2^64"),
+        Texts::NoType => say(&rt, "the type is no decimal number below 2^16"),
     }
 }

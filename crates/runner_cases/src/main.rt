@@ -9,10 +9,10 @@ ghost use Rattle.runner.specs.Runs.{run_of, Leaves};
 use board_records::{boot_signed, geometry, head, load, name, rest, update_signed};
 use flash::Geometry;
 use header::u32_at;
-use libc::STDIN_FILENO;
 use loader::Answer;
 use runner::StepCounts;
 use show::field;
+use std::io;
 
 // A case's head is the board's record (24 bytes), the number of steps (4 bytes) and the counters before the run
 // (16 bytes).
@@ -46,7 +46,7 @@ fn run_from(
 }
 
 // Runs on the flash and prints the answer, the counters and the digest.
-fn run(flash: &mut [u8], record: &[u8]) {
+fn run(rt: &impl Print, flash: &mut [u8], record: &[u8]) -> io::Result<()> {
     let counts = StepCounts {
         erases: u32_at(record, 28),
         copies: u32_at(record, 32),
@@ -61,30 +61,30 @@ fn run(flash: &mut [u8], record: &[u8]) {
         u32_at(record, 24),
         counts,
     );
-    let answer = ran.answer;
-    show_steps::answer(answer);
-    field(ran.counts.erases as u64);
-    field(ran.counts.copies as u64);
-    field(ran.counts.bytes as u64);
-    field(ran.counts.marks as u64);
-    show::digest(sha256::digest(flash));
+    show_steps::answer(rt, ran.answer)?;
+    field(rt, ran.counts.erases as u64)?;
+    field(rt, ran.counts.copies as u64)?;
+    field(rt, ran.counts.bytes as u64)?;
+    field(rt, ran.counts.marks as u64)?;
+    show::digest(rt, sha256::digest(flash))
 }
 
-fn cases(input: &[u8], space: &mut [u8]) {
+fn cases(rt: &impl Print, input: &[u8], space: &mut [u8]) -> io::Result<()> {
     let mut left = input;
     let mut n = 0;
     while 0 < left.len() {
         let s = left;
         n = load(s, HEAD, space, n);
-        show::label(name(s));
-        run(&mut space[..n], head(s, HEAD));
+        show::label(rt, name(s))?;
+        run(rt, &mut space[..n], head(s, HEAD))?;
         left = rest(s, HEAD);
     }
+    Ok(())
 }
 
-fn main() {
+fn main(rt: HostRuntime) -> io::Result<()> {
     let mut input = [0u8; 524_288];
     let mut space = [0u8; 65_536];
-    let n = io::read_full(STDIN_FILENO, &mut input);
-    cases(&input[..n], &mut space);
+    let n = files::read_full(&mut rt.stdin(), &mut input)?;
+    cases(&rt, &input[..n], &mut space)
 }

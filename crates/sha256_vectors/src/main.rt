@@ -4,29 +4,34 @@
 
 ghost use Rattle.std.specs.Prelude.{◌≡◌, ◌≤◌, length};
 
-use libc::STDOUT_FILENO;
 use sha256::Hash;
+use std::io;
 
-fn name(text: &[u8]) {
-    io::write_all(STDOUT_FILENO, text);
-    io::write_all(STDOUT_FILENO, b" ");
+fn name(rt: &impl Print, text: &str) -> io::Result<()> {
+    print!(rt; "{text} ")
 }
 
-fn published() {
-    name(b"empty");
-    show::digest(sha256::digest(b""));
-    name(b"abc");
-    show::digest(sha256::digest(b"abc"));
-    name(b"448-bit");
-    show::digest(sha256::digest(b"abcdbcdecdefdefgefghfghighijhijkijkljklmklmnlmnomnopnopq"));
-    name(b"896-bit");
-    show::digest(sha256::digest(
-        b"abcdefghbcdefghicdefghijdefghijkefghijklfghijklmghijklmnhijklmnoijklmnopjklmnopqklmnopqrlmnopqrsmnopqrstnopqrstu",
-    ));
+fn published(rt: &impl Print) -> io::Result<()> {
+    name(rt, "empty")?;
+    show::digest(rt, sha256::digest(b""))?;
+    name(rt, "abc")?;
+    show::digest(rt, sha256::digest(b"abc"))?;
+    name(rt, "448-bit")?;
+    show::digest(
+        rt,
+        sha256::digest(b"abcdbcdecdefdefgefghfghighijhijkijkljklmklmnlmnomnopnopq"),
+    )?;
+    name(rt, "896-bit")?;
+    show::digest(
+        rt,
+        sha256::digest(
+            b"abcdefghbcdefghicdefghijdefghijkefghijklfghijklmghijklmnhijklmnoijklmnopjklmnopqklmnopqrlmnopqrsmnopqrstnopqrstu",
+        ),
+    )
 }
 
 // One million "a", 125 blocks at a time.
-fn million() {
+fn million(rt: &impl Print) -> io::Result<()> {
     let a = [97u8; 8000];
     let mut hash = Hash::new();
     let mut left: usize = 125;
@@ -34,7 +39,7 @@ fn million() {
         hash = hash.blocks(&a);
         left -= 1;
     }
-    show::digest(sha256::digest_after(hash, 15625, &a[..0]));
+    show::digest(rt, sha256::digest_after(hash, 15625, &a[..0]))
 }
 
 fn pattern() -> [u8; 200]
@@ -54,26 +59,23 @@ fn part(s: &[u8], a: usize, e: usize) -> &[u8]
 }
 
 // The first n bytes of the pattern, whole and cut at a third.
-fn length_line(a: &[u8], n: usize)
+fn length_line(rt: &impl Print, a: &[u8], n: usize) -> io::Result<()>
     requires { n ≤ length a.now }
 {
-    io::print_decimal(STDOUT_FILENO, n as u64);
-    io::write_all(STDOUT_FILENO, b" ");
-    show::digest(sha256::digest(part(a, 0, n)));
+    print!(rt; "{n} ")?;
+    show::digest(rt, sha256::digest(part(a, 0, n)))?;
     let cut = n / 3;
-    io::print_decimal(STDOUT_FILENO, cut as u64);
-    io::write_all(STDOUT_FILENO, b"+");
-    io::print_decimal(STDOUT_FILENO, (n - cut) as u64);
-    io::write_all(STDOUT_FILENO, b" ");
-    show::digest(sha256::digest_of_two(part(a, 0, cut), part(a, cut, n)));
+    print!(rt; "{cut}+{} ", n - cut)?;
+    show::digest(rt, sha256::digest_of_two(part(a, 0, cut), part(a, cut, n)))
 }
 
-fn main() {
-    published();
-    name(b"million");
-    million();
+fn main(rt: HostRuntime) -> io::Result<()> {
+    published(&rt)?;
+    name(&rt, "million")?;
+    million(&rt)?;
     let a = pattern();
     for n in 0..201 {
-        length_line(&a, n);
+        length_line(&rt, &a, n)?;
     }
+    Ok(())
 }

@@ -2,57 +2,47 @@
 // written, so these have none beyond safety; stored output and tests/command hold them.
 #![tactic(auto)]
 
-use libc::STDOUT_FILENO;
 use sha256::DigestAnswer;
+use std::io;
 
 // A digest as 64 hexadecimal digits, or its refusal.
-pub fn digest(a: DigestAnswer) {
-    let number = a.number;
-    if number != 0 {
-        refusal(number);
-        return;
+pub fn digest(rt: &impl Print, a: DigestAnswer) -> io::Result<()> {
+    if a.number != 0 {
+        return refusal(rt, a.number);
     }
-    let bytes = a.bytes;
-    hex(&bytes);
+    hex(rt, &a.bytes)
 }
 
 // The name of a case, which its line begins with.
-pub fn label(name: &[u8]) {
-    io::write_all(STDOUT_FILENO, name);
-    io::write_all(STDOUT_FILENO, b": ");
+pub fn label(rt: &impl Print, name: &[u8]) -> io::Result<()> {
+    rt.write_all(name)?;
+    print!(rt; ": ")
 }
 
 // REFUSE and document 01's number.
-pub fn refusal(number: u32) {
-    io::write_all(STDOUT_FILENO, b"REFUSE ");
-    decimal(number as u64);
+pub fn refusal(rt: &impl Print, number: u32) -> io::Result<()> {
+    println!(rt; "REFUSE {number}")
 }
 
-pub fn decimal(n: u64) {
-    io::print_decimal(STDOUT_FILENO, n);
-    end_line();
+pub fn decimal(rt: &impl Print, n: u64) -> io::Result<()> {
+    println!(rt; "{n}")
 }
 
 // A number that more follows on its line.
-pub fn field(n: u64) {
-    io::print_decimal(STDOUT_FILENO, n);
-    io::write_all(STDOUT_FILENO, b" ");
+pub fn field(rt: &impl Print, n: u64) -> io::Result<()> {
+    print!(rt; "{n} ")
 }
 
 // Two hexadecimal digits for each byte.
-pub fn hex(bytes: &[u8]) {
+pub fn hex(rt: &impl Print, bytes: &[u8]) -> io::Result<()> {
     let mut i = 0;
     while i < bytes.len() {
-        print_byte(bytes[i]);
+        print_byte(rt, bytes[i])?;
         i += 1;
     }
-    end_line();
+    println!(rt)
 }
 
-fn print_byte(x: u8) {
-    io::print_hex(STDOUT_FILENO, x as u64, 2);
-}
-
-fn end_line() {
-    io::write_all(STDOUT_FILENO, b"\n");
+fn print_byte(rt: &impl Print, x: u8) -> io::Result<()> {
+    print!(rt; "{x:02x}")
 }

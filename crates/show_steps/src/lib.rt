@@ -3,59 +3,57 @@
 #![tactic(auto)]
 
 use flash::Step;
-use libc::STDOUT_FILENO;
 use loader::Answer;
 use show::{decimal, field, refusal};
 use slots::Work;
+use std::io;
 
 // A step as document 01's simulator prints it: a letter and numbers.
-pub fn step(s: Step) {
+pub fn step(rt: &impl Print, s: Step) -> io::Result<()> {
     match s {
         Step::Erase(at) => {
-            io::write_all(STDOUT_FILENO, b"E ");
-            decimal(at as u64);
+            print!(rt; "E ")?;
+            decimal(rt, at as u64)
         }
         Step::Copy(from, to) => {
-            io::write_all(STDOUT_FILENO, b"C ");
-            field(from as u64);
-            decimal(to as u64);
+            print!(rt; "C ")?;
+            field(rt, from as u64)?;
+            decimal(rt, to as u64)
         }
         Step::Byte(at, value) => {
-            io::write_all(STDOUT_FILENO, b"B ");
-            field(at as u64);
-            decimal(value as u64);
+            print!(rt; "B ")?;
+            field(rt, at as u64)?;
+            decimal(rt, value as u64)
         }
         Step::Mark(at) => {
-            io::write_all(STDOUT_FILENO, b"M ");
-            decimal(at as u64);
+            print!(rt; "M ")?;
+            decimal(rt, at as u64)
         }
     }
 }
 
 // The step that is due, FINISHED or a refusal.
-pub fn work(w: Work) {
+pub fn work(rt: &impl Print, w: Work) -> io::Result<()> {
     match w {
-        Work::Due(s) => step(s),
-        Work::Finished => {
-            io::write_all(STDOUT_FILENO, b"FINISHED\n");
-        }
-        Work::Refused(number) => refusal(number),
+        Work::Due(s) => step(rt, s),
+        Work::Finished => println!(rt; "FINISHED"),
+        Work::Refused(number) => refusal(rt, number),
     }
 }
 
 // A step, with LAST before the last one, BOOT and the number that UPDATE was passed over for, or a
 // refusal.
-pub fn answer(a: Answer) {
+pub fn answer(rt: &impl Print, a: Answer) -> io::Result<()> {
     match a {
-        Answer::Step(s) => step(s),
+        Answer::Step(s) => step(rt, s),
         Answer::LastStep(s) => {
-            io::write_all(STDOUT_FILENO, b"LAST ");
-            step(s);
+            print!(rt; "LAST ")?;
+            step(rt, s)
         }
         Answer::Boot(why) => {
-            io::write_all(STDOUT_FILENO, b"BOOT ");
-            decimal(why as u64);
+            print!(rt; "BOOT ")?;
+            decimal(rt, why as u64)
         }
-        Answer::Refused(number) => refusal(number),
+        Answer::Refused(number) => refusal(rt, number),
     }
 }

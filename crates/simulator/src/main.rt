@@ -2,32 +2,37 @@
 // 4096, and prints each step begun, then BOOT and the version of BOOT's image, or REFUSE and the number.
 #![tactic(auto)]
 
+ghost use Rattle.std.specs.Prelude.{IfOk, OnErr};
 ghost use Rattle.loader.specs.Checks.{image_checks};
 ghost use Rattle.runner.specs.Runs.{run_for, EndsWith};
-ghost use Rattle.simulator.specs.Input.{simulated};
+ghost use Rattle.simulator.specs.Input.{simulated, IsCutShort, IsSimulationCutShort};
 
 use board_records::{boot_signed, geometry, update_signed};
+use files::read_full;
 use flash::Geometry;
 use header::version_of;
-use libc::{STDIN_FILENO, STDOUT_FILENO};
 use loader::{Answer, next_step};
 use runner::{advance, pick};
 use show::{decimal, refusal};
 use slots::Slot;
+use std::io;
 
 const RECORD: usize = 24;
 
 const MOST_FLASH: usize = 65_536;
 
-// A run that prints its steps.
+// A run that prints its steps. Where a step cannot be printed, the run ends behind it.
 fn show_run(
+    rt: &impl Print,
     flash: &mut [u8],
     g: Geometry,
     boot_signed: bool,
     update_signed: bool,
     number: u32,
-) -> Answer
-    ensures { EndsWith (run_for image_checks g number boot_signed update_signed flash.old) result flash.new }
+) -> io::Result<Answer>
+    ensures whole { IfOk result (λ answer.
+        EndsWith (run_for image_checks g number boot_signed update_signed flash.old) answer flash.new) }
+    ensures cut { OnErr result (IsCutShort g boot_signed update_signed number flash.old flash.new) }
 {
     let mut left = number;
     let mut a = boot_signed;
@@ -37,7 +42,7 @@ fn show_run(
         let answer = done.answer;
         match answer {
             Answer::Step(step) => {
-                show_steps::step(step);
+                show_steps::step(rt, step)?;
                 let turned = done.turned;
                 let next = pick(turned, b, a);
                 b = pick(turned, a, b);
@@ -45,27 +50,29 @@ fn show_run(
                 left -= 1;
             }
             Answer::LastStep(step) => {
-                show_steps::step(step);
-                return Answer::Boot(0);
+                show_steps::step(rt, step)?;
+                return Ok(Answer::Boot(0));
             }
-            Answer::Boot(_) => return answer,
-            Answer::Refused(_) => return answer,
+            Answer::Boot(_) => return Ok(answer),
+            Answer::Refused(_) => return Ok(answer),
         }
     }
-    next_step(flash, g, a, b)
+    Ok(next_step(flash, g, a, b))
 }
 
 // The run on the input as it was read; 5 where the record is not whole or the flash is too long.
-fn simulate(record: &[u8], flash: &mut [u8]) -> Answer
-    ensures { EndsWith (simulated «record».now flash.old) result flash.new }
+fn simulate(rt: &impl Print, record: &[u8], flash: &mut [u8]) -> io::Result<Answer>
+    ensures whole { IfOk result (λ answer. EndsWith (simulated «record».now flash.old) answer flash.new) }
+    ensures cut { OnErr result (IsSimulationCutShort «record».now flash.old flash.new) }
 {
     if record.len() < RECORD {
-        return Answer::Refused(5);
+        return Ok(Answer::Refused(5));
     }
     if MOST_FLASH < flash.len() {
-        return Answer::Refused(5);
+        return Ok(Answer::Refused(5));
     }
     show_run(
+        rt,
         flash,
         geometry(record),
         boot_signed(record),
@@ -74,27 +81,28 @@ fn simulate(record: &[u8], flash: &mut [u8]) -> Answer
     )
 }
 
-fn show_boot(image: &[u8]) {
-    io::write_all(STDOUT_FILENO, b"BOOT ");
-    decimal(version_of(image).version as u64);
+fn show_boot(rt: &impl Print, image: &[u8]) -> io::Result<()> {
+    print!(rt; "BOOT ")?;
+    decimal(rt, version_of(image).version as u64)
 }
 
 // A run with the number 4096 never ends with a step due, so nothing is printed for one.
-fn show_end(flash: &[u8], g: Geometry, end: Answer) {
+fn show_end(rt: &impl Print, flash: &[u8], g: Geometry, end: Answer) -> io::Result<()> {
     match end {
-        Answer::Boot(_) => show_boot(slots::image(flash, g, Slot::Boot)),
-        Answer::Refused(number) => refusal(number),
-        _ => {}
+        Answer::Boot(_) => show_boot(rt, slots::image(flash, g, Slot::Boot)),
+        Answer::Refused(number) => refusal(rt, number),
+        _ => Ok(()),
     }
 }
 
 // One byte more than the most that a flash may have is enough to see that it is too long.
-fn main() {
+fn main(rt: HostRuntime) -> io::Result<()> {
     let mut record = [0u8; RECORD];
     let mut space = [0u8; MOST_FLASH + 1];
-    let read = io::read_full(STDIN_FILENO, &mut record);
-    let len = io::read_full(STDIN_FILENO, &mut space);
+    let mut input = rt.stdin();
+    let read = read_full(&mut input, &mut record)?;
+    let len = read_full(&mut input, &mut space)?;
     let flash = &mut space[..len];
-    let end = simulate(&record[..read], flash);
-    show_end(flash, geometry(&record), end);
+    let end = simulate(&rt, &record[..read], flash)?;
+    show_end(&rt, flash, geometry(&record), end)
 }

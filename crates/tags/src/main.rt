@@ -2,44 +2,44 @@
 // decimal, a line for each tag, in their order. The last line is END where the list is whole, or the papers' number.
 #![tactic(auto)]
 
-ghost use Rattle.std.specs.Prelude.{◌≡◌};
+ghost use Rattle.std.specs.Prelude.{◌≡◌, IfOk};
 ghost use Rattle.tags.specs.Listed.{end_of};
 
 use header::{Lookup, Tag, Wanted};
-use libc::{STDIN_FILENO, STDOUT_FILENO};
+use std::io;
 
-fn print_tag(t: Tag) {
-    show::field(t.kind as u64);
-    show::field(t.at as u64);
-    show::decimal(t.len as u64);
+fn print_tag(rt: &impl Print, t: Tag) -> io::Result<()> {
+    show::field(rt, t.kind as u64)?;
+    show::field(rt, t.at as u64)?;
+    show::decimal(rt, t.len as u64)
 }
 
-fn print_end(number: u32) {
+fn print_end(rt: &impl Print, number: u32) -> io::Result<()> {
     if number == 25 {
-        io::write_all(STDOUT_FILENO, b"END\n");
-    } else {
-        show::decimal(number as u64);
+        return println!(rt; "END");
     }
+    show::decimal(rt, number as u64)
 }
 
 // Prints each tag, and answers the number with which the list ends.
-fn print_tags(header: &[u8]) -> u32
-    ensures { result ≡ end_of header.now }
+fn print_tags(rt: &impl Print, header: &[u8]) -> io::Result<u32>
+    ensures { IfOk result (λ number. number ≡ end_of header.now) }
 {
     let mut p = header::FIRST;
     loop {
         match header::next_tag(header, p, Wanted::Any) {
             Lookup::Found(t) => {
-                print_tag(t);
+                print_tag(rt, t)?;
                 p = t.next;
             }
-            Lookup::Refused(number) => return number,
+            Lookup::Refused(number) => return Ok(number),
         }
     }
 }
 
-fn main() {
+fn main(rt: HostRuntime) -> io::Result<()> {
     let mut header = [0u8; header::LENGTH];
-    let n = io::read_full(STDIN_FILENO, &mut header);
-    print_end(print_tags(&header[..n]));
+    let n = files::read_full(&mut rt.stdin(), &mut header)?;
+    let number = print_tags(&rt, &header[..n])?;
+    print_end(&rt, number)
 }

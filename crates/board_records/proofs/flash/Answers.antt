@@ -1,4 +1,3 @@
-use borrow.Author.Rules.{rules}
 use Rattle.board_records.proofs.flash.Goals as goal
 
 pub returns : goal.returns

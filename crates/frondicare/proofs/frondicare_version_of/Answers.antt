@@ -1,4 +1,3 @@
-use borrow.Author.Rules.{rules}
 use Rattle.frondicare.proofs.frondicare_version_of.Goals as goal
 
 pub returns : goal.returns

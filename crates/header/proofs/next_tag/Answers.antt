@@ -1,5 +1,7 @@
 use mathlib.Core.Logic.{inl, inr}
 use mathlib.Core.Path.{sym, ◌∙◌}
+use native.Mathlib.Omega.{arith}
+use borrow.Author.Rules.{rules}
 use Rattle.header.proofs.Lookups.{too_short, bad_start, walked}
 use Rattle.header.proofs.next_tag.Goals as goal
 
@@ -14,4 +16,4 @@ returns-then-from-gt-LENGTH c = sym (bad_start _ _ _ c.if-header-lt-LENGTH.false
 
 pub returns : goal.returns
 returns c =
-    c.find.ensures ∙ sym (walked _ _ _ c.if-header-lt-LENGTH.false c.if-from-lt-FIRST.false c.if-from-gt-LENGTH.false)
+    c.find.ensures ∙ sym (walked _ _ _ c.if-header-lt-LENGTH.false c.if-from-lt-FIRST.false (omega (arith, c.if-from-gt-LENGTH.false)))

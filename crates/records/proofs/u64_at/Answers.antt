@@ -1,5 +1,4 @@
 use native.Mathlib.Omega.{arith}
-use borrow.Author.Rules.{rules}
 use Rattle.header.proofs.Numbers.{past, two_parts}
 use Rattle.records.proofs.u64_at.Goals as goal
 

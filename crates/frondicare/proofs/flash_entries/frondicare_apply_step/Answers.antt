@@ -1,5 +1,4 @@
 use mathlib.Core.Path.{refl}
-use borrow.Author.Rules.{rules}
 use Rattle.frondicare.proofs.flash_entries.frondicare_apply_step.Goals as goal
 
 pub returns-in-Some : goal.returns-in-Some

@@ -1,4 +1,3 @@
-use borrow.Author.Rules.{rules}
 use Rattle.frondicare.proofs.flash_entries.frondicare_check_geometry.Goals as goal
 
 pub returns : goal.returns

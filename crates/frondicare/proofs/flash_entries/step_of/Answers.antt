@@ -1,4 +1,3 @@
-use borrow.Author.Rules.{rules}
 use borrow.Author.Tests.{le-leb, lt-leb, ne_eqb}
 use Rattle.frondicare.specs.Steps.{step_of}
 use Rattle.frondicare.proofs.flash_entries.step_of.Goals as goal

@@ -1,4 +1,3 @@
-use borrow.Author.Rules.{rules}
 use Rattle.frondicare.proofs.list_entries.frondicare_next_tag.Goals as goal
 
 pub returns-in-Found : goal.returns-in-Found

@@ -1,4 +1,3 @@
-use borrow.Author.Rules.{rules}
 use Rattle.frondicare.proofs.loader_entries.flat_answer.Goals as goal
 
 pub returns-in-Step : goal.returns-in-Step

@@ -1,4 +1,3 @@
-use borrow.Author.Rules.{rules}
 use Rattle.frondicare.proofs.loader_entries.flat_step.Goals as goal
 
 pub returns-in-Erase : goal.returns-in-Erase

@@ -1,4 +1,3 @@
-use borrow.Author.Rules.{rules}
 use Rattle.frondicare.proofs.loader_entries.flat_work.Goals as goal
 
 pub returns-in-Due : goal.returns-in-Due

@@ -1,4 +1,3 @@
-use borrow.Author.Rules.{rules}
 use Rattle.frondicare.proofs.loader_entries.frondicare_confirm.Goals as goal
 
 pub returns : goal.returns

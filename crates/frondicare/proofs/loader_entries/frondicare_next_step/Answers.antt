@@ -1,5 +1,4 @@
 use mathlib.Core.Path.{ap, ◌∙◌}
-use borrow.Author.Rules.{rules}
 use Rattle.frondicare.specs.Answers.{flat_answer}
 use Rattle.frondicare.proofs.loader_entries.frondicare_next_step.Goals as goal
 

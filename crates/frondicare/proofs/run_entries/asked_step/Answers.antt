@@ -1,5 +1,4 @@
 use mathlib.Core.Path.{sym, ◌∙◌}
-use borrow.Author.Rules.{rules}
 use Rattle.frondicare.proofs.run_entries.asked_step.Goals as goal
 
 pub returns-in-Some : goal.returns-in-Some

@@ -1,4 +1,3 @@
-use borrow.Author.Rules.{rules}
 use Rattle.frondicare.proofs.state_entries.flat_state.Goals as goal
 
 pub returns-in-Sound : goal.returns-in-Sound

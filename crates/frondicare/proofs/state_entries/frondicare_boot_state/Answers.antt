@@ -1,5 +1,4 @@
 use mathlib.Core.Path.{ap, ◌∙◌}
-use borrow.Author.Rules.{rules}
 use Rattle.frondicare.specs.States.{flat_state}
 use Rattle.frondicare.proofs.state_entries.frondicare_boot_state.Goals as goal
 

@@ -1,4 +1,3 @@
-use borrow.Author.Rules.{rules}
 use Rattle.frondicare.proofs.state_entries.frondicare_in_mid_swap.Goals as goal
 
 pub returns : goal.returns

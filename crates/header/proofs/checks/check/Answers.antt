@@ -1,3 +1,4 @@
+use mathlib.Core.Path.{sym}
 use native.Mathlib.Omega.{arith}
 use borrow.Author.Tests.{le-ltb, eq-eqb, ne_eqb}
 use Rattle.header.specs.Checks.{header_check}
@@ -16,7 +17,7 @@ returns-then-size-eq0 c =
       le-ltb _ 256 c.if-image-lt-LENGTH.false,
       ← c.is_marked.ensures,
       c.if-is_marked.true,
-      ← c.u32_at-size.ensures,
+      sym c.u32_at-size.ensures,
       eq-eqb _ _ c.if-size-eq0.true,
     )
 

@@ -44,7 +44,7 @@ returns-then-end-at c =
       ne_eqb _ _ c.if-byte_at.false,
       wide_enough _ _ 4 (omega arith) c.if-end-p-lt4.false,
       ← c.u16_at-kind.ensures,
-      ne_eqb _ _ c.if-kind-eq0.false,
+      ne_eqb _ 0 c.if-kind-eq0.false,
       ← c.u16_at-len.ensures,
       too_narrow _ _ _ (omega arith) c.if-end-at.true,
     )

@@ -9,9 +9,9 @@ returns-then-reached-ne0 c = rw (ne_eqb _ _ c.if-reached-ne0.true)
 
 pub returns-then-number-ne0 : goal.returns-then-number-ne0
 unfolding passed_over
-returns-then-number-ne0 c =
+returns-then-number-ne0 c = let none = eq-eqb _ _ c.if-reached-ne0.false in
     rw (
-      eq-eqb _ _ c.if-reached-ne0.false,
+      none,
       image_told _ _ c.requires _ _ c.image-update.ensures,
       ← c.verify-number.ensures,
       ne_eqb _ _ c.if-number-ne0.true,
@@ -19,9 +19,9 @@ returns-then-number-ne0 c =
 
 pub returns-then-is_on_trial : goal.returns-then-is_on_trial
 unfolding passed_over
-returns-then-is_on_trial c =
+returns-then-is_on_trial c = let none = eq-eqb _ _ c.if-reached-ne0.false in
     rw (
-      eq-eqb _ _ c.if-reached-ne0.false,
+      none,
       image_told _ _ c.requires _ _ c.image-update.ensures,
       ← c.verify-number.ensures,
       eq-eqb _ _ c.if-number-ne0.false,
@@ -31,10 +31,10 @@ returns-then-is_on_trial c =
 
 pub returns : goal.returns
 unfolding passed_over
-returns c =
+returns c = let none = eq-eqb _ _ c.if-reached-ne0.false in
     let e = c.requires in
     rw (
-      eq-eqb _ _ c.if-reached-ne0.false,
+      none,
       image_told _ _ e _ _ c.image-update.ensures,
       ← c.verify-number.ensures,
       eq-eqb _ _ c.if-number-ne0.false,

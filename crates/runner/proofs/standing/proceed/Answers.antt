@@ -22,33 +22,33 @@ returns-then-at-eq0 c =
     )
 
 pub returns-in-Step : goal.returns-in-Step
-returns-in-Step c = (
-  rw c.if-at.false (sym (met_step image_checks _ _ _ _ _ c.next_step-answer.ensures (omega (arith, c.if-at-eq0.false))
+returns-in-Step c = let some = c.if-at-eq0.false in (
+  rw c.if-at.false (sym (met_step image_checks _ _ _ _ _ c.next_step-answer.ensures (omega (arith, some))
       c.carry_out-turned.ensures.0 c.in-Step.is c.carry_out-turned.ensures.1 c.pick.ensures c.pick-in-Step.ensures)),
-  λ h. omega (arith, c.if-at-eq0.false),
+  λ h. omega (arith, some),
 )
 
 pub returns-in-LastStep : goal.returns-in-LastStep
-returns-in-LastStep c =
+returns-in-LastStep c = let some = c.if-at-eq0.false in
     let e = c.end-in-LastStep.ensures in (
       rw (e.0, e.1.0, e.1.1.0, e.1.1.1.0, c.if-at.false)
-          (sym (met_last image_checks _ _ _ _ _ c.next_step-answer.ensures (omega (arith, c.if-at-eq0.false)) c.carry_out-turned.ensures.0
+          (sym (met_last image_checks _ _ _ _ _ c.next_step-answer.ensures (omega (arith, some)) c.carry_out-turned.ensures.0
           c.in-LastStep.is)),
-      λ h. omega (arith, c.if-at-eq0.false, e.1.1.1.1),
+      λ h. omega (arith, some, e.1.1.1.1),
     )
 
 pub returns-in-Boot : goal.returns-in-Boot
-returns-in-Boot c =
+returns-in-Boot c = let some = c.if-at-eq0.false in
     let e = c.end-in-Boot.ensures in (
-      rw (e.0, e.1.1.1.0, c.if-at.false) (sym (met_boot image_checks _ _ _ _ _ c.next_step-answer.ensures (omega (arith, c.if-at-eq0.false))
+      rw (e.0, e.1.1.1.0, c.if-at.false) (sym (met_boot image_checks _ _ _ _ _ c.next_step-answer.ensures (omega (arith, some))
           c.carry_out-turned.ensures.0 c.in-Boot.is)),
       idle e.0,
     )
 
 pub returns-in-Refused : goal.returns-in-Refused
-returns-in-Refused c =
+returns-in-Refused c = let some = c.if-at-eq0.false in
     let e = c.end-in-Refused.ensures in (
-      rw (e.0, e.1.1.1.0, c.if-at.false) (sym (met_refused image_checks _ _ _ _ _ c.next_step-answer.ensures (omega (arith, c.if-at-eq0.false))
+      rw (e.0, e.1.1.1.0, c.if-at.false) (sym (met_refused image_checks _ _ _ _ _ c.next_step-answer.ensures (omega (arith, some))
           c.carry_out-turned.ensures.0 c.in-Refused.is)),
       idle e.0,
     )
