@@ -46,11 +46,11 @@ def layers(loader, claims, edges, top):
 
 def listed(title, names, edges, y):
     """A group of programs: each crate, and beside it what it rests on."""
-    yield rect("band", 536, y, 344, 30 + 32 * len(names))
+    yield rect("band", 536, y, 356, 30 + 32 * len(names))
     yield text("name", 548, y + 19, title)
     for i, name in enumerate(names):
         yield chip("program", 603, y + 42 + 32 * i, name)
-        yield text("note", 668, y + 46 + 32 * i, ", ".join(edges[name]))
+        yield text("note", 664, y + 46 + 32 * i, ", ".join(edges[name]))
 
 
 def page(found, bottom):
