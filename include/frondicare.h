@@ -1,6 +1,6 @@
 /* Frondicare's loader, callable from C: an update is swapped in, and back where it isn't confirmed, and power may be
  * lost at any moment. The flash has three areas: BOOT, which is started; UPDATE, with the image to come or to return
- * to; and SWAP, a sector to exchange them by. Link libfrondicare.a (tools/rt lib frondicare makes it), today for
+ * to; and SWAP, a sector to exchange them by. Link libfrondicare.a (tools/library makes it), today for
  * x86-64 only. frondicare_geometry.h has a flash's six numbers as a struct, and each entry that takes them as NAME_on;
  * frondicare_words.h has numbers in words; examples/valve/ is a whole loader.
  *

@@ -1,6 +1,7 @@
 #!/usr/bin/env python3
 """What include/frondicare.h says that the library needs, read off its machine code: its size, no data that is written,
-what is to be linked beside it, and the stack of the deepest chain of calls (tests/c/stack.c measures single calls)."""
+what is to be linked beside it, no instructions beyond SSE2, and the stack of the deepest chain of calls
+(tests/c/stack.c measures single calls)."""
 import re
 import subprocess
 import sys
@@ -10,6 +11,11 @@ from pathlib import Path
 ROOT = Path(__file__).resolve().parents[2]
 LIBRARY = ROOT / "crates/frondicare/out/libfrondicare.a"
 LINKED = ["memset"]
+# What SSE3 to SSE4.2 brought, and AVX.
+BEYOND = re.compile(r"\t(v[a-z]\w+|popcnt|crc32|lddqu|addsubp.|h(?:add|sub)p.|mov(?:d|sh|sl)dup|pshufb"
+                    r"|ph(?:add|sub)\w+|pmaddubsw|pmulhrsw|psign.|pabs.|palignr|p?blend\w+|dpp.|(?:extract|insert)ps"
+                    r"|mpsadbw|packusdw|pcmp(?:eq|gt)q|p(?:extr|insr)[bdq]|phminposuw|p(?:max|min)(?:sb|sd|ud|uw)"
+                    r"|pmov[sz]x\w+|pmuldq|pmulld|ptest|round[ps].|movntdqa|pcmp[ei]str.)\b")
 ADDRESS, ARGUMENTS = 8, 6 * 8  # a call pushes its return address; an entry's caller, at most so many of its arguments
 
 
@@ -25,9 +31,8 @@ def frame(code):
     return ADDRESS * len(re.findall(r"\tpush ", code)) + sum(down) + max(below, default=0)
 
 
-def deepest():
+def deepest(text):
     """{entry: the stack of its deepest chain of calls}; what memset takes is not in it."""
-    text = output_of("objdump", "--disassemble", "--reloc", "--no-show-raw-insn")
     pieces = re.split(r"^[0-9a-f]+ <(.+)>:$", text, flags=re.MULTILINE)[1:]
     codes = dict(zip(pieces[::2], pieces[1::2]))
     assert not re.search(r"\tcall +\*", text), "a call of what is not named"
@@ -46,9 +51,12 @@ def main():
     code = int(re.search(r"The code has (\d+) KB at most, no data that is written, and calls memset and", header)[1])
     text, data, bss = map(int, output_of("size").splitlines()[1].split()[:3])
     linked = re.findall(r" U (\w+)", output_of("nm"))
-    entry, most = max(deepest().items(), key=lambda item: item[1])
+    disassembled = output_of("objdump", "--disassemble", "--reloc", "--no-show-raw-insn")
+    beyond = sorted(set(BEYOND.findall(disassembled)))
+    entry, most = max(deepest(disassembled).items(), key=lambda item: item[1])
     print(f"needs: {text} bytes of code, {data + bss} of written data, {most} of stack ({entry}); calls", *linked)
-    sys.exit(text > 1000 * code or data + bss > 0 or most > stack or linked != LINKED)
+    print("instructions beyond SSE2:", *beyond or ["none"])
+    sys.exit(text > 1000 * code or data + bss > 0 or most > stack or linked != LINKED or beyond != [])
 
 
 main()

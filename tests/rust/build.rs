@@ -1,4 +1,4 @@
-//! Links the static library that `tools/rt lib frondicare` wrote.
+//! Links the static library that `tools/library` wrote.
 fn main() {
     let archive = std::path::Path::new(env!("CARGO_MANIFEST_DIR")).join("../../crates/frondicare/out");
     println!("cargo:rustc-link-search=native={}", archive.display());
