@@ -81,7 +81,7 @@ def check_usage(given):
 
 
 def answer(*words):
-    """What the program prints. A Rattle program has no exit status: what is wrong it says on standard error."""
+    """What the program prints. Its status says nothing: what is wrong it says on standard error."""
     done = subprocess.run(words, stdin=subprocess.DEVNULL, capture_output=True)
     said = done.stderr.decode(errors="replace").strip()
     if said.startswith("REFUSE "):

@@ -11,9 +11,6 @@ from pathlib import Path
 from commands.failure import Failed
 
 ROOT = Path(__file__).resolve().parents[1]
-# How long each takes with all that it rests on.
-MINUTES = {"digest": "about a minute", "simulator": "about four minutes", "pack": "about two minutes",
-           "verify": "about two minutes", "tags": "about a minute"}
 # Prints a line when nobody else proves here, then what rt says. rt builds a program only to run it: so it runs on
 # nothing, and what it prints is let go.
 UNDER_LOCK = '. tools/lock.sh && echo && exec tools/rt run "$0" 2>&1 >/dev/null'
@@ -41,7 +38,7 @@ def followed(name, lines):
     begins, and with each crate."""
     next(lines, "")
     if told := not where(name).exists():
-        say(f"{name} is proved and built first, with all that it rests on: {MINUTES[name]}, once")
+        say(f"{name} is proved and built first, with all that it rests on: some minutes, once")
     crate, began, said = None, 0, []
     for line in map(str.rstrip, lines):
         if line.startswith("rt: running "):

@@ -84,7 +84,7 @@ until_true wait_said 1 behind
 touch go
 wait
 answered new behind
-said_is new "digest is proved and built first, with all that it rests on: about a minute, once
+said_is new "digest is proved and built first, with all that it rests on: some minutes, once
 digest is proved (7 s)"
 said_is behind "another command is proving here: waiting"
 rm go clone/crates/digest/out/digest.stamp
