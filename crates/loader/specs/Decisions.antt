@@ -51,7 +51,7 @@ module _ (checks : Checks) (g : Geometry) (f : List ℕ) where
   unfoldable pub finish : ℕ → Bool → Answer
   finish t a = or_else (renewal_of g f Boot t) (spend a)
 
-  -- 1. flags ill_formed; 2. all flags 0; 3. all flags F, and UPDATE is passed over; 4. else the step of the lowest sector whose flag isn't
+  -- 1. flags ill-formed; 2. all flags 0; 3. all flags F, and UPDATE is passed over; 4. else the step of the lowest sector whose flag isn't
   -- 0, by its flag
   unfoldable pub staged_decision : ℕ → Bool → Bool → Answer
   staged_decision t a b =

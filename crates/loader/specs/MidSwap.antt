@@ -29,7 +29,7 @@ abbrev pub NothingVerified : Type 0
 NothingVerified = (g : Geometry) (f : List ℕ) → mid_swap g f ≡ true
     → (checks checks' : Checks) (a a' b b' : Bool) → next_step checks g f a b ≡ next_step checks' g f a' b'
 
--- a step with others behind it, or the refusal of ill_formed flags
+-- a step with others behind it, or the refusal of ill-formed flags
 abbrev pub StepOr20 : Answer → Type 0
 StepOr20 (A.Step s) = Unit {0}
 StepOr20 (A.LastStep s) = ⊥

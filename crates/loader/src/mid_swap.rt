@@ -7,7 +7,7 @@ use crate::states::is_staged;
 use flash::Geometry;
 use slots::Progress;
 
-// Whether UPDATE is sound with 70 and its flags are neither all F nor all 0; they may be ill_formed.
+// Whether UPDATE is sound with 70 and its flags are neither all F nor all 0; they may be ill-formed.
 pub(crate) fn is_mid_swap(flash: &[u8], g: Geometry) -> bool
     requires { geometry_check g (length flash.now) ≡ 0 }
     ensures { result ≡ mid_swap g flash.now }

@@ -43,7 +43,7 @@ module _ (checks : Checks) (g : Geometry) (f : List ℕ) (bytes : Bytes f) (ok :
   abbrev top : ℕ
   top = 2 * (9 * g.count + 4)
 
-  -- a swap is pending: at some progress, or its flags are ill_formed
+  -- a swap is pending: at some progress, or its flags are ill-formed
   swap_run : staged g f ≡ true → Within m top (run_for checks g m a b f)
   swap_run e = go (progress_of (flags g.count (trailer_of g f Update))) refl
     where

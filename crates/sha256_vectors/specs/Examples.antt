@@ -1,4 +1,4 @@
--- FIPS 180-4's one_block and two-block examples, with the digests that it prints.
+-- FIPS 180-4's one-block and two-block examples, with the digests that it prints.
 use Rattle.std.specs.Prelude.{ℕ, List, [], ◌∷◌, ◌≡◌, refl}
 use Rattle.sha256.specs.Constants.{constants}
 use Rattle.sha256.specs.Digest.{hashed, digest}

@@ -1,4 +1,4 @@
--- Claim: well_formed_lem flags of n sectors and the progress numbers from 0 to 3n correspond one to one.
+-- Claim: well-formed flags of n sectors and the progress numbers from 0 to 3n correspond one to one.
 use Rattle.std.specs.Prelude.{ℕ, zero, suc, ◌-◌, ◌*◌, ◌/◌, ◌≤◌, ◌<◌, true, cond, List, [], ◌∷◌, ◌≡◌, eqb, ltb, length, get_or, replicate}
 use Rattle.compare.specs.Compare.{all}
 use Rattle.slots.specs.Flags.{new, updated, well_formed, lowest_unfinished, progress, flag_of}
@@ -8,7 +8,7 @@ unfoldable pub flags_for : ℕ → ℕ → List ℕ
 flags_for zero p = []
 flags_for (suc n) p = cond (ltb p 3) (flag_of p ∷ replicate n new) (updated ∷ flags_for n (p - 3))
 
--- fs are well_formed_lem flags of n sectors, and stand for the progress p
+-- fs are well-formed flags of n sectors, and stand for the progress p
 pub record FlagsAt (n p : ℕ) (fs : List ℕ) : Type 0 where
   pub count : length fs ≡ n
   pub formed : well_formed fs ≡ true

@@ -68,7 +68,7 @@ pub fn renewal(flash: &[u8], g: Geometry, slot: Slot, state: u8) -> Work
 }
 
 // How far the exchange has come, by the flags: three for each finished sector, one or two in the
-// current one. 20 where they are ill_formed.
+// current one. 20 where they are ill-formed.
 pub fn progress(flash: &[u8], g: Geometry) -> Progress
     ensures { result ≡ progress_answer g flash.now }
 {

@@ -17,6 +17,6 @@ unfoldable pub well_formed : ℕ → ℕ → List Tag → Bool
 well_formed e p [] = eqb p e
 well_formed e p (t ∷ ts) = eqb t.at (p + 4) && (not (named t.kind) && well_formed e t.next ts)
 
--- 26: over 82 bytes; 27: ill_formed
+-- 26: over 82 bytes; 27: ill-formed
 unfoldable pub custom_check : List ℕ → ℕ
 custom_check run = cond (ltb 82 (length run)) 26 (cond (well_formed (length run) 0 (tags_of run)) 0 27)

@@ -16,7 +16,7 @@ split :
 split c =
     let a = c.args in
     rw (c.is_same_block.ensures, ← c.loop-i.invariant.1)
-    (same_block a.a.now a.b.now c.if-a-b.false c.loop-i.i c.block_end-end.result (omega (arith, c.block_end-end.ensures.more)))
+    (same_block a.a.now a.b.now (omega arith) c.loop-i.i c.block_end-end.result (omega (arith, c.block_end-end.ensures.more)))
 
 pub returns-then-a-b : goal.returns-then-a-b
 returns-then-a-b c = let a = c.args in same_lengths a.a.now a.b.now c.if-a-b.true
@@ -27,7 +27,7 @@ loop-i-init c = (omega arith, refl)
 pub is_same_block-requires : goal.is_same_block-requires
 is_same_block-requires c =
     let a = c.args in
-    block_lengths a.a.now a.b.now c.if-a-b.false c.loop-i.i c.block_end-end.result
+    block_lengths a.a.now a.b.now (omega arith) c.loop-i.i c.block_end-end.result
 
 pub loop-i-preserved : goal.loop-i-preserved
 loop-i-preserved c = (omega (arith, c.block_end-end.ensures.inside), next (split (goal.at.loop-i-preserved c).After-is_same_block) c.if-is_same_block.true)
@@ -38,4 +38,4 @@ returns-else-is_same_block c = stop (split (goal.at.returns-else-is_same_block c
 pub returns : goal.returns
 returns c =
     let a = c.args in
-    same_none a.a.now a.b.now c.if-a-b.false c.loop-i.i (omega arith) ∙ c.loop-i.invariant.1
+    same_none a.a.now a.b.now (omega arith) c.loop-i.i (omega arith) ∙ c.loop-i.invariant.1

@@ -3,4 +3,4 @@ use Rattle.flash.proofs.steps.is_mark_place.Goals as goal
 
 pub returns : goal.returns
 unfolding mark_place
-returns c = cc
+returns c = rw c.slot_size-slot.ensures

@@ -8,4 +8,4 @@ returns-then-t-lt16 c = rw (lt-ltb _ _ c.if-t-lt16.true)
 
 pub returns : goal.returns
 unfolding ring_word
-returns c = rw (le-ltb _ _ c.if-t-lt16.false) (cc)
+returns c = rw (le-ltb _ _ c.if-t-lt16.false, ← c.small_sigma1.ensures, ← c.small_sigma0.ensures) c.sum4.ensures

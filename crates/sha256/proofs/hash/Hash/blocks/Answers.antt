@@ -8,7 +8,7 @@ loop-i-init c = (search rules, refl)
 
 pub loop-i-preserved : goal.loop-i-preserved
 unfolding hashed
-loop-i-preserved c = (search rules, rw add-one (cc))
+loop-i-preserved c = (search rules, rw (add-one, ← c.loop-i.invariant.1) c.block-h.ensures)
 
 pub returns : goal.returns
 returns c =
