@@ -3,6 +3,7 @@
 // tests/vectors/runner.py makes both files, the answers with another implementation.
 #![tactic(auto)]
 
+ghost use Rattle.std.specs.Prelude.{◌≡◌, length};
 ghost use Rattle.loader.specs.Checks.{image_checks};
 ghost use Rattle.runner.specs.Runs.{run_of, Leaves};
 
@@ -82,8 +83,15 @@ fn cases(rt: &impl Print, input: &[u8], space: &mut [u8]) -> io::Result<()> {
     Ok(())
 }
 
+// What a proof knows of so long an array is its length alone.
+fn space_for_input() -> [u8; 524_288]
+    ensures { length result ≡ 524288 }
+{
+    [0; 524_288]
+}
+
 fn main(rt: HostRuntime) -> io::Result<()> {
-    let mut input = [0u8; 524_288];
+    let mut input = space_for_input();
     let mut space = [0u8; 65_536];
     let n = files::read_full(&mut rt.stdin(), &mut input)?;
     cases(&rt, &input[..n], &mut space)

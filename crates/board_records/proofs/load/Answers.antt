@@ -12,4 +12,4 @@ pub returns : goal.returns
 unfolding loaded
 returns c =
     let fits = c.least-n.ensures.1 in
-    ((cc), ((search rules), (rw (c.copy.ensures, length-take-le _ _ fits) (cc))))
+    (rw (c.least.ensures.0, c.pick.ensures, c.flash-flash.ensures), ((search rules), (rw (c.copy.ensures, length-take-le _ _ fits) (cc))))
