@@ -25,11 +25,18 @@ returns-in_default-decimal_in-2 c =
       sym c.decimal_in-3.ensures ∙ c.in_default-decimal_in-2.is,
     )
 
+-- Each cast has both bounds, so that a number taken for another is refused by the contract.
 pub overflow_cast-result : goal.overflow_cast-result
-overflow_cast-result c = omega (arith, at_most 0xFFFFFFFF _ (sym c.decimal_in.ensures ∙ c.in-Number.is))
+overflow_cast-result c =
+    let v = at_most 0xFFFFFFFF _ (sym c.decimal_in.ensures ∙ c.in-Number.is) in
+    let k = at_most 0xFFFF _ (sym c.decimal_in-3.ensures ∙ c.in-Number-decimal_in-2.is) in
+    omega (arith, v, k)
 
 pub overflow_cast-result-2 : goal.overflow_cast-result-2
-overflow_cast-result-2 c = omega (arith, at_most 0xFFFF _ (sym c.decimal_in-3.ensures ∙ c.in-Number-decimal_in-2.is))
+overflow_cast-result-2 c =
+    let v = at_most 0xFFFFFFFF _ (sym c.decimal_in.ensures ∙ c.in-Number.is) in
+    let k = at_most 0xFFFF _ (sym c.decimal_in-3.ensures ∙ c.in-Number-decimal_in-2.is) in
+    omega (arith, v, k)
 
 pub returns : goal.returns
 unfolding fields_in fields_of
