@@ -16,10 +16,10 @@ FACT = re.compile(
     "as printed, the two |computed as far as they go, the two |computed as a goal is|expected type "  # two sides differ
     "|give a proof of that|list the missing equation"  # what is left of a goal after rewriting
     "|`omega`: the goal does not follow|`(?:search|grind)`: no proof of"  # what no tactic finds
-    "|it is not proved that (?:what the function ensures|.*invariant)")  # a contract, where there is no answer
+    "|it is not proved that (?:what the function ensures|the invariant|the loop ends)")  # where no proof is written
 # Words and declarations about a bound: such a refusal shows nothing of what a function answers. Where a function
 # promises nothing else, the line of its edit ends in ', a bound'.
-BOUND = re.compile(r"it is not proved that (?!what |.*invariant)")
+BOUND = re.compile(r"it is not proved that (?!what the function ensures|the invariant|the loop ends)")
 BOUND_NAME = re.compile("(overflow|add|sub|mul|div|rem|cast|index|slice|part|shared-slice|array)[-_]|.+-requires")
 
 
