@@ -1,5 +1,5 @@
 // The files that the arguments name. What goes wrong with one is said on standard error.
-ghost use Rattle.std.specs.Prelude.{◌≤◌, length, IfOk, IfSome};
+ghost use Rattle.std.specs.Prelude.{◌≡◌, ◌≤◌, length, IfOk, IfSome, IfNone, OnErr};
 
 use files::{argument, open_argument, read_full};
 use std::env::Env;
@@ -7,7 +7,8 @@ use std::io;
 use std::io::Read;
 use std::rt::Files;
 
-// How many bytes of a file came, as far as the buffer goes, and whether there are more.
+// How many bytes of a file came, as far as the buffer goes, and whether there are more. Where a read fails, the buffer has
+// what came and keeps its length.
 #[derive(Drop)]
 struct Contents {
     count: usize,
@@ -19,7 +20,8 @@ pub(crate) fn say(rt: &impl Eprint, text: &str) {
 }
 
 fn read_open(reader: &mut impl Read, buf: &mut [u8]) -> io::Result<Contents>
-    ensures { IfOk result (λ got. got.count ≤ length buf.new) }
+    ensures ok { IfOk result (λ got. got.count ≤ length buf.new) }
+    ensures err { OnErr result (length buf.new ≡ length buf.old) }
 {
     let count = read_full(reader, buf)?;
     let mut next = [0u8; 1];
@@ -32,7 +34,8 @@ fn read_open(reader: &mut impl Read, buf: &mut [u8]) -> io::Result<Contents>
 
 // The file that argument i names; none where something went wrong, which was said then.
 fn read<R: Env + Files + Eprint>(rt: &R, i: usize, buf: &mut [u8]) -> Option<Contents>
-    ensures { IfSome result (λ got. got.count ≤ length buf.new) }
+    ensures some { IfSome result (λ got. got.count ≤ length buf.new) }
+    ensures none { IfNone result (length buf.new ≡ length buf.old) }
 {
     let mut name = [0u8; 4096];
     let opened = open_argument(rt, i, &mut name);
@@ -54,7 +57,8 @@ pub(crate) fn read_most<R: Env + Files + Eprint>(
     buf: &mut [u8],
     otherwise: &str,
 ) -> Option<usize>
-    ensures { IfSome result (λ count. count ≤ length buf.new) }
+    ensures some { IfSome result (λ count. count ≤ length buf.new) }
+    ensures none { IfNone result (length buf.new ≡ length buf.old) }
 {
     let got = read(rt, i, buf)?;
     if got.more {
@@ -89,7 +93,8 @@ fn is_dash(rt: &impl Env, i: usize) -> bool {
 
 // A file's first bytes, or none of them where a dash stands for its name.
 pub(crate) fn read_start<R: Env + Files + Eprint>(rt: &R, i: usize, buf: &mut [u8]) -> Option<usize>
-    ensures { IfSome result (λ count. count ≤ length buf.new) }
+    ensures some { IfSome result (λ count. count ≤ length buf.new) }
+    ensures none { IfNone result (length buf.new ≡ length buf.old) }
 {
     if is_dash(rt, i) {
         return Some(0);

@@ -7,7 +7,7 @@
 
 mod summary;
 
-ghost use Rattle.std.specs.Prelude.{◌≤◌, length, IfSome};
+ghost use Rattle.std.specs.Prelude.{◌≡◌, ◌≤◌, length, IfSome, IfNone};
 
 use files::{argument, is_given, open_argument, read_full};
 use std::env::Env;
@@ -62,7 +62,8 @@ fn print_summary(rt: &impl Print, image: &[u8], signed: bool) -> io::Result<()> 
 // The file that the first argument names, as far as the buffer goes: how many bytes came. None where something went
 // wrong, which was said then.
 fn read_image<R: Env + Files + Eprint>(rt: &R, buf: &mut [u8]) -> Option<usize>
-    ensures { IfSome result (λ count. count ≤ length buf.new) }
+    ensures some { IfSome result (λ count. count ≤ length buf.new) }
+    ensures none { IfNone result (length buf.new ≡ length buf.old) }
 {
     let mut name = [0u8; 4096];
     let opened = open_argument(rt, 1, &mut name);
