@@ -51,8 +51,9 @@ def drawn(path, words, g):
     text, file = printed(*words), path.with_suffix(".svg")
     *findings, last = printed(*words, "--svg", file).splitlines()
     assert last == f"drawn into {file}", last
-    # What is found is prose, which may go on.
-    assert g.n > 8 or max(map(len, text.splitlines()[:-len(findings)])) <= 100, text
+    # What is found, or said under a start, is prose, which may go on.
+    rows = [line for line in text.splitlines()[:-len(findings)] if not line.startswith(" " * 10)]
+    assert g.n > 8 or max(map(len, rows)) <= 100, text
     return findings, text, file.read_text()
 
 
