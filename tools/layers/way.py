@@ -12,14 +12,16 @@ READ = [
     [("header", "check", "header"), ("digest", "long_digest_of_two", "sha256"), ("verdict", "verify", "image")],
     [("order of decision", "next_step", "loader")],
 ]
-ANSWERS = [("refusal", "Refused"), ("boot", "Boot"), ("last step", "LastStep"), ("step", "Step")]  # loader::Answer
+# of next_step: refused, or a case of loader::Answer
+ANSWERS = [("refusal", "-> Result<Answer, Refusal>"), ("boot", r"^    Boot\("), ("last step", r"^    LastStep\("),
+           ("step", r"^    Step\(")]
 DONE = [("carried out", "apply_step", "flash"), ("counted", "count_step", "runner")]
 
 
 def check_names():
     """Every function and every case of the answer is there."""
     named = [(crate, rf"\bfn {function}\b") for part in [*READ, DONE] for _, function, crate in part]
-    for crate, pattern in named + [("loader", rf"^    {case}\(") for _, case in ANSWERS]:
+    for crate, pattern in named + [("loader", pattern) for _, pattern in ANSWERS]:
         sources = "\n".join(file.read_text(encoding="utf-8") for file in (ROOT / "crates" / crate / "src").glob("*.rt"))
         if not re.search(pattern, sources, re.MULTILINE):
             sys.exit(f"tools/layers/way.py: no {pattern} in crates/{crate}/src")

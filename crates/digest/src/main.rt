@@ -3,56 +3,43 @@
 // standard error, and nothing is printed.
 #![tactic(auto)]
 
-use files::fill;
-use sha256::{DigestAnswer, Hash};
+use files::{Opened, open_argument, read_full};
+use refusal::Refusal;
+use sha256::Hash;
 use std::io;
 use std::io::Read;
 
-// What was read and hashed, and why a read failed, if one did.
-#[derive(Drop)]
-struct Outcome {
-    answer: DigestAnswer,
-    failure: Option<io::Error>,
-}
-
-// The digest of what is left of the input. After 4 GiB the answer refuses.
-fn digest_of(reader: &mut impl Read) -> Outcome {
+// The digest of what is left of the input. After 4 GiB it refuses.
+fn digest_of(reader: &mut impl Read) -> io::Result<Result<[u8; 32], Refusal>> {
     let mut buf = [0u8; 65_536];
     let mut hash = Hash::new();
-    for i in 0..65536 {
-        let got = fill(reader, &mut buf);
-        let n = got.count;
-        if n < 65536 {
-            return Outcome {
-                answer: sha256::digest_after(hash, 1024 * i, &buf[..n]),
-                failure: got.failure,
-            };
+    for i in 0..65_536 {
+        let n = read_full(reader, &mut buf)?;
+        if n < buf.len() {
+            return Ok(sha256::digest_after(hash, 1024 * i, &buf[..n]));
         }
         hash = hash.blocks(&buf);
     }
-    Outcome {
-        answer: sha256::digest_after(hash, 1024 * 65536, &buf),
-        failure: None,
-    }
+    Ok(sha256::digest_after(hash, 1024 * 65_536, &buf))
 }
 
-fn report(rt: &(impl Print + Eprint), outcome: Outcome, path: &[u8]) -> io::Result<()> {
-    if let Some(e) = outcome.failure {
-        files::fail(rt, path, e);
-        return Ok(());
+fn print_digest(rt: &(impl Print + Eprint), reader: &mut impl Read, name: &[u8]) -> io::Result<()> {
+    match digest_of(reader) {
+        Ok(digest) => show::digest(rt, digest),
+        Err(e) => {
+            files::fail(rt, name, e);
+            Ok(())
+        }
     }
-    show::digest(rt, outcome.answer)
 }
 
 fn main(rt: HostRuntime) -> io::Result<()> {
-    let mut path = [0u8; 4096];
     if !files::is_given(&rt, 1) {
-        return report(&rt, digest_of(&mut rt.stdin()), b"standard input");
+        return print_digest(&rt, &mut rt.stdin(), b"standard input");
     }
-    let opened = files::open_argument(&rt, 1, &mut path);
-    let n = opened.len;
-    match opened.file {
-        Some(mut file) => report(&rt, digest_of(&mut file), &path[..n]),
+    let mut space = [0u8; 4096];
+    match open_argument(&rt, 1, &mut space) {
+        Some(Opened { mut file, name }) => print_digest(&rt, &mut file, name),
         None => Ok(()),
     }
 }

@@ -1,15 +1,13 @@
 -- Laws of the geometry: what its check's answer 0 says. Assumes nothing.
-use Prim.Native.Nat.{ℕ, ◌+◌, ◌-◌, ◌%◌, ◌≤◌}
+use Prim.Native.Nat.{ℕ, ◌+◌, ◌%◌, ◌≤◌}
 use mathlib.Core.Bool.{Bool, true, false, ◌&&◌, ◌||◌}
 use mathlib.Core.Logic.{inl, inr, ⊎_elim}
-use mathlib.Core.Path.{◌≡◌, refl, sym, ◌∙◌}
-use native.Mathlib.Decide.{dec_le}
-use native.Mathlib.Nat.{le_trans, mul-le-mul_left, mul-le-mul_right}
+use mathlib.Core.Path.{◌≡◌, refl, ◌∙◌}
 use native.Mathlib.Omega.{arith}
-use borrow.Author.Tests.{leb-true, eqb-true, le-leb, lt-leb}
+use borrow.Author.Tests.{leb-true, eqb-true}
 use lib.Dec.{leb, eqb}
 use Rattle.compare.proofs.Tests.{and_left, and_right, or_cases}
-use Rattle.flash.specs.Geometry.{listed, counted, image_size, slot_size, aligned, fits, apart, placed, disjoint, geometry_check}
+use Rattle.flash.specs.Geometry.{listed, counted, slot_size, aligned, fits, apart, placed, disjoint, geometry_check}
 use Rattle.flash.specs.Valid.{Shaped, Apart, Valid}
 use Rattle.flash.specs.declared.geometry.Geometry.{Geometry}
 
@@ -39,17 +37,6 @@ shaped g l k =
       count_min = leb-true 1 g.count (and_left _ _ k);
       count-max = leb-true g.count 64 (and_right (leb 1 g.count) _ k);
     }
-
-pub image-max : (g : Geometry) → Shaped g → image_size g ≤ 262144
-image-max g s = le_trans (mul-le-mul_right g.size s.count-max) (mul-le-mul_left 64 s.size-max)
-
--- the room past an offset, by a difference that cannot wrap
-pub fits-within : (at k len : ℕ) → at ≤ len → leb k (len - at) ≡ fits at k len
-fits-within at k len h = go (dec_le k (len - at))
-  where
-    go : Dec (k ≤ len - at) → leb k (len - at) ≡ leb (at + k) len
-    go (yes p) = le-leb k (len - at) p ∙ sym (le-leb (at + k) len (omega arith))
-    go (no p) = lt-leb k (len - at) (omega arith) ∙ sym (lt-leb (at + k) len (omega arith))
 
 -- the three areas lie within the flash
 pub record Placed (g : Geometry) (len : ℕ) : Type 0 where
@@ -106,10 +93,6 @@ module _ (g : Geometry) (len : ℕ) where
         unfolding geometry_check
         number_4 s = simp (p, q, r, s)
 
-        pub number_0 : disjoint g ≡ true → 0 ≡ geometry_check g len
-        unfolding geometry_check
-        number_0 s = simp (p, q, r, s)
-
 pub valid : (g : Geometry) (len : ℕ) → geometry_check g len ≡ 0 → Valid g len
 unfolding disjoint
 valid g len e = go (listed g.size) refl (counted g.count) refl (placed g len) refl (disjoint g) refl
@@ -141,3 +124,8 @@ valid g len e = go (listed g.size) refl (counted g.count) refl (placed g len) re
     go true l false k c p x d = absurd (let z = number_2 g len l k ∙ e in omega arith)
     go true l true k false p x d = absurd (let z = number_3 g len l k p ∙ e in omega arith)
     go true l true k true p false d = absurd (let z = number_4 g len l k p d ∙ e in omega arith)
+
+-- the same, as far as the code's sums need it
+pub areas_in : (g : Geometry) (len : ℕ) → geometry_check g len ≡ 0
+    → (g.boot + slot_size g ≤ len) × (g.update + slot_size g ≤ len) × (g.swap + g.size ≤ len) × (256 ≤ g.size)
+areas_in g len e = let v = valid g len e in (v.boot_in, v.update_in, v.swap_in, v.shape.size-min)

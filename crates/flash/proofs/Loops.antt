@@ -8,8 +8,7 @@ use native.Mathlib.Numerals.{add-one}
 use native.Mathlib.Omega.{arith}
 use lib.Bits.{bit_and}
 use lib.ListN.{length, take, drop, get_or, set, replicate, length-drop, length-replicate, take-append-drop, drop_of_length-le}
-use lib.ListN.{replicate-append-replicate}
-use lib.Seq.{take_all, take-suc, drop-cons, set_at, take-set-le, drop-set-add, take-suc-set, get_or-drop, drop-drop, take-add}
+use lib.Seq.{take-length, take_all, take-set-le, drop-set-add, get_or-drop, drop-drop, take-add}
 use Rattle.flash.specs.Bytes.{blank, overlay, ands, write}
 use Rattle.flash.specs.Valid.{Apart}
 use Rattle.flash.proofs.Parts.{length_part, write-apart, write-write}
@@ -17,21 +16,9 @@ use Rattle.flash.proofs.Writes.{take-write, drop-write}
 
 -- ---- the turns of the loops
 
-pub erase_turn : (p : List ℕ) (i : ℕ) (xs : List ℕ) → i < length p → xs ≡ overlay p 0 (blank i)
-    → set xs i 255 ≡ overlay p 0 (blank (i + 1))
+pub erased : (p xs : List ℕ) (k : ℕ) → xs ≡ replicate k 255 → xs ++ drop k p ≡ overlay p 0 (blank k)
 unfolding overlay blank
-erase_turn p i xs h e = rw (
-  e,
-  zero-add (length {A = ℕ} (replicate i 255)),
-  zero-add (length {A = ℕ} (replicate (i + 1) 255)),
-  length-replicate {A = ℕ} i 255,
-  length-replicate {A = ℕ} (i + 1) 255,
-  drop-cons p i 0 h,
-  set_at (replicate i 255) (get_or p i 0) (drop (suc i) p) 255 i (length-replicate {A = ℕ} i 255),
-  ← replicate-append-replicate {A = ℕ} i 1 255,
-  append_assoc,
-  add-one,
-)
+erased p xs k e = rw (e, length-replicate {A = ℕ} k 255, zero-add)
 
 ands_turn : (f d : List ℕ) (i : ℕ) → i < length f → i < length d
     → set (ands f (take i d)) i (bit_and (get_or (ands f (take i d)) i 0) (get_or d i 0)) ≡ ands f (take (suc i) d)
@@ -57,9 +44,12 @@ write_turn p d at i xs h k e =
     ∙ ands_turn (drop at p) d i (omega (arith, length-drop at p)) k in
     sym (take-append-drop at (set xs (at + i) v)) ∙ rw (a, c, add-one)
 
-pub load_turn : (part xs : List ℕ) (i : ℕ) → i < length xs → i < length part → take i xs ≡ take i part
-    → take (i + 1) (set xs i (get_or part i 0)) ≡ take (i + 1) part
-load_turn part xs i h k e = rw (add-one, take-suc-set, e, take-suc part i 0)
+-- before the first turn
+pub nothing_written : (p : List ℕ) (at : ℕ) → p ≡ write p at []
+unfolding ands write
+nothing_written p at = sym (take-append-drop at p)
+
+pub ruleset writing = (write_turn, nothing_written, take-length)
 
 -- ---- a part lent on
 
@@ -87,15 +77,20 @@ module _ (f : List ℕ) (at : ℕ) (h : at ≤ length f) where
   erased_part d ys e =
       back ys ∙ rw (e, all_of_it, zero-add, drop-drop (length d) at f, append_assoc, append_assoc)
 
--- a page more of a copy
-pub page_turn : (f cur page : List ℕ) (from to z k m : ℕ) → from + z ≤ length f → to + z ≤ length f → Apart from z to z → k + m ≤ z
-    → cur ≡ write f to (take k (drop from f)) → page ≡ take m (drop (from + k) cur)
-    → write cur (to + k) page ≡ write f to (take (k + m) (drop from f))
-page_turn f cur page from to z k m hf ht w hk ec ep =
+pub ruleset lent_on = (written_start, erased_part)
+
+-- a page of m bytes more of a copy: the page is read, and ys is what writing it made of the part that it was lent
+pub page_turn : (f cur page ys : List ℕ) (from to z k m : ℕ) → from + z ≤ length f → to + z ≤ length f → Apart from z to z
+    → k + m ≤ z → length cur ≡ length f → cur ≡ write f to (take k (drop from f))
+    → page ≡ take (from + k + m - (from + k)) (drop (from + k) cur) → ys ≡ write (take (length cur - to) (drop to cur)) k page
+    → take to cur ++ (ys ++ drop (length cur - to) (drop to cur)) ≡ write f to (take (k + m) (drop from f))
+page_turn f cur page ys from to z k m hf ht w hk el ec ep ey =
     let l : length (take k (drop from f)) ≡ k = length_part f from k (omega arith) in
-    let p : page ≡ take m (drop (from + k) f) = ep ∙ ap (λ (x : List ℕ). take m (drop (from + k) x)) ec
+    let n : from + k + m - (from + k) ≡ m = omega arith in
+    let p : page ≡ take m (drop (from + k) f) = ep ∙ ap₂ (λ (i : ℕ) (x : List ℕ). take i (drop (from + k) x)) n ec
     ∙ write-apart f to (take k (drop from f)) (from + k) m (omega (arith, l)) (omega arith) (near w) in
-    ap₂ (λ (x y : List ℕ). write x (to + k) y) ec p
+    written_part cur to (omega arith) k page ys ey
+    ∙ ap₂ (λ (x y : List ℕ). write x (to + k) y) ec p
     ∙ ap (λ (x : ℕ). write (write f to (take k (drop from f))) (to + x) (take m (drop (from + k) f))) (sym l)
     ∙ write-write f to (take k (drop from f)) (take m (drop (from + k) f)) (omega arith)
     ∙ rw (take-add k m (drop from f), drop-drop k from f)

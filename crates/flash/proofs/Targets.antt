@@ -1,20 +1,19 @@
 -- An accepted step's target lies in one of the three areas, and so within the flash. Assumes nothing.
 use Prim.Native.Nat.{ℕ, ◌+◌, ◌-◌, ◌*◌, ◌/◌, ◌%◌, ◌≤◌, ◌<◌}
-use mathlib.Core.Bool.{Bool, true, false, not, ◌&&◌, ◌||◌}
-use mathlib.Core.List.{List}
+use mathlib.Core.Bool.{Bool, true, not, ◌&&◌, ◌||◌}
 use mathlib.Core.Logic.{inl, inr, ⊎_elim, ◌≢◌}
 use mathlib.Core.Path.{◌≡◌, refl, sym, ◌∙◌}
 use native.Mathlib.Decide.{dec_lt}
 use native.Mathlib.Nat.{add-mul-mod_self_right, div-add-mod', lt_of_mul-lt-mul_right, mul-le-mul_right, add-mul, one-mul}
 use native.Mathlib.Omega.{arith}
-use borrow.Author.Tests.{leb-true, ltb-true, eqb-true, eq-eqb, ne_eqb}
+use borrow.Author.Tests.{leb-true, ltb-true, eqb-true, eq-eqb}
 use lib.Dec.{leb, ltb, eqb}
-use lib.ListN.{length}
 use Rattle.compare.proofs.Tests.{never, and_left, and_right, or_cases}
 use Rattle.flash.specs.Changes.{target_start, target_size, Lies, InAreas}
 use Rattle.flash.specs.Geometry.{image_size, slot_size, aligned, geometry_check}
-use Rattle.flash.specs.Steps.{within, sector_start, trailer_byte, mark_place, accepted, applied, step_check, flash_after}
+use Rattle.flash.specs.Steps.{within, sector_start, trailer_byte, mark_place, accepted}
 use Rattle.flash.specs.Valid.{Apart, Valid}
+use Rattle.flash.proofs.Areas.{valid}
 use Rattle.flash.specs.declared.geometry.Geometry.{Geometry}
 use Rattle.flash.specs.declared.steps.Step.{Step}
 use Rattle.flash.specs.declared.steps.Step.TheVariants.{Erase, Copy, Byte, Mark}
@@ -136,25 +135,25 @@ module _ (g : Geometry) (len : ℕ) (v : Valid g len) where
   pub target_fits : (s : Step) → accepted g s ≡ true → target_start s + target_size g s ≤ len
   target_fits s e = inside-fits (target_start s) (target_size g s) (target-inside s e)
 
-  pub fits_as : (s t : Step) → accepted g s ≡ true → s ≡ t → target_start t + target_size g t ≤ len
-  fits_as s t e q = target_fits t (rw q at e)
-
   pub copy-fits : (s : Step) (from to : ℕ) → accepted g s ≡ true → s ≡ Copy from to
       → (z % 256 ≡ 0) × (from + z ≤ len) × (to + z ≤ len) × Apart from z to z
   copy-fits s from to e q =
       let h = copied from to (rw q at e) in
-      (v.shape.size_pages, inside-fits from z (start-inside from h.from_start), fits_as s (Copy from to) e q, h.two)
+      (v.shape.size_pages, inside-fits from z (start-inside from h.from_start), inside-fits to z (start-inside to h.to_start), h.two)
 
--- what carrying out answers and leaves, by its tests; x is what the geometry's check answered
-module _ (g : Geometry) (f : List ℕ) (s : Step) (x : ℕ) (e : x ≡ geometry_check g (length f)) where
-  pub refused-geometry : x ≢ 0 → (x ≡ step_check g (length f) s) × (f ≡ flash_after g f s)
-  unfolding step_check flash_after
-  refused-geometry n = rw (← e, ne_eqb x 0 n, ne_eqb x 0 n) (refl, refl)
+-- the same by the step's variant, of a geometry that passes its check
+module _ (g : Geometry) (len : ℕ) (e : geometry_check g len ≡ 0) where
+  pub erase_fits : (at : ℕ) → accepted g (Erase at) ≡ true → at + g.size ≤ len
+  erase_fits at = target_fits g len (valid g len e) (Erase at)
 
-  pub refused-step : x ≡ 0 → accepted g s ≡ false → (24 ≡ step_check g (length f) s) × (f ≡ flash_after g f s)
-  unfolding step_check flash_after
-  refused-step z a = rw (← e, z, a) (refl, refl)
+  pub copy_fits : (from to : ℕ) → accepted g (Copy from to) ≡ true
+      → (g.size % 256 ≡ 0) × (from + g.size ≤ len) × (to + g.size ≤ len) × Apart from g.size to g.size
+  copy_fits from to a = copy-fits g len (valid g len e) (Copy from to) from to a refl
 
-  pub carried : (f' : List ℕ) → x ≡ 0 → accepted g s ≡ true → f' ≡ applied g f s → (0 ≡ step_check g (length f) s) × (f' ≡ flash_after g f s)
-  unfolding step_check flash_after
-  carried f' z a h = rw (← e, z, a) (refl, h)
+  pub byte_fits : (at : ℕ) → trailer_byte g at ≡ true → at + 1 ≤ len
+  byte_fits at = target_fits g len (valid g len e) (Byte at 0)
+
+  pub mark_fits : (at : ℕ) → accepted g (Mark at) ≡ true → at + 4 ≤ len
+  mark_fits at = target_fits g len (valid g len e) (Mark at)
+
+pub ruleset fits_by_variant = (erase_fits, copy_fits, byte_fits, mark_fits)

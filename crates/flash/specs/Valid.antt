@@ -1,4 +1,4 @@
--- What a geometry is known for whose check answers 0, as the contracts inside the crate use it.
+-- What a geometry is known for whose check answers 0.
 use Rattle.std.specs.Prelude.{ℕ, ◌+◌, ◌%◌, ◌≤◌, ◌⊎◌, ◌≡◌}
 use Rattle.flash.specs.Geometry.{slot_size}
 use Rattle.flash.specs.declared.geometry.Geometry.{Geometry}

@@ -1,82 +1,95 @@
-// What stands in a record of the input.
-ghost use Rattle.std.specs.Prelude.{◌≤◌, ◌<◌};
-
+// What stands in the input.
 use flash::Geometry;
-use header::{byte_at, u16_at};
-use records::{copy, part, u64_at};
+use header::{byte_at, number_at};
+use records::part;
 use slots::Slot;
 
-// The numbers behind a record's name take HEAD bytes: a command letter (1 byte), a kind (1: an op or a
-// slot), a value (2), and of 8 bytes each the sector size, the sector count, BOOT, UPDATE, SWAP, the
+// A case: a name's length (1 byte), the name, a head, the patches' length (2 bytes) and the patches.
+#[derive(Clone, Copy)]
+pub(crate) struct Case<'a> {
+    pub(crate) name: &'a [u8],
+    pub(crate) head: Head,
+    pub(crate) patches: &'a [u8],
+}
+
+// The numbers behind a case's name: a command letter (1 byte), a kind (1: an op or a slot), a value (2, of which a byte
+// counts: a byte's value, or a state), and of 8 bytes each the sector size, the sector count, BOOT, UPDATE, SWAP, the
 // flash's length, an offset or a progress, and a copy's target.
-pub(crate) const HEAD: usize = 68;
+#[derive(Clone, Copy)]
+pub(crate) struct Head {
+    pub(crate) command: u8,
+    pub(crate) kind: u8,
+    pub(crate) value: u8,
+    pub(crate) geometry: Geometry,
+    pub(crate) flash_len: usize,
+    pub(crate) at: usize,
+    pub(crate) to: usize,
+}
 
-pub(crate) fn geometry(head: &[u8]) -> Geometry {
-    Geometry {
-        size: u64_at(head, 4) as usize,
-        count: u64_at(head, 12) as usize,
-        boot: u64_at(head, 20) as usize,
-        update: u64_at(head, 28) as usize,
-        swap: u64_at(head, 36) as usize,
+const HEAD: usize = 68;
+
+// Bytes that lie over a flash from an offset on: the offset (2 bytes), their length (2) and the bytes.
+#[derive(Clone, Copy)]
+pub(crate) struct Patch<'a> {
+    pub(crate) at: usize,
+    pub(crate) bytes: &'a [u8],
+}
+
+pub(crate) fn first_case(s: &[u8]) -> (Case<'_>, usize) {
+    let name_len = byte_at(s, 0) as usize;
+    let head = 1 + name_len;
+    let patches = head + HEAD + 2;
+    let patches_len = number_at::<u16>(s, head + HEAD) as usize;
+    let case = Case {
+        name: part(s, 1, name_len),
+        head: head_of(part(s, head, HEAD)),
+        patches: part(s, patches, patches_len),
+    };
+    (case, patches + patches_len)
+}
+
+pub(crate) fn first_patch(s: &[u8]) -> (Patch<'_>, usize) {
+    let len = number_at::<u16>(s, 2) as usize;
+    let patch = Patch {
+        at: number_at::<u16>(s, 0) as usize,
+        bytes: part(s, 4, len),
+    };
+    (patch, 4 + len)
+}
+
+fn head_of(s: &[u8]) -> Head {
+    let number = |p| number_at::<u64>(s, p) as usize;
+    Head {
+        command: byte_at(s, 0),
+        kind: byte_at(s, 1),
+        value: byte_at(s, 2),
+        geometry: Geometry {
+            size: number(4),
+            count: number(12),
+            boot: number(20),
+            update: number(28),
+            swap: number(36),
+        },
+        flash_len: number(44),
+        at: number(52),
+        to: number(60),
     }
 }
 
-pub(crate) fn flash_len(head: &[u8]) -> usize {
-    u64_at(head, 44) as usize
-}
-
-// An offset, or a progress.
-pub(crate) fn at(head: &[u8]) -> usize {
-    u64_at(head, 52) as usize
-}
-
-pub(crate) fn to(head: &[u8]) -> usize {
-    u64_at(head, 60) as usize
-}
-
-// A byte's value, or a state: one byte of the two.
-pub(crate) fn value(head: &[u8]) -> u8 {
-    byte_at(head, 2)
-}
-
-pub(crate) fn slot(head: &[u8]) -> Slot {
-    match byte_at(head, 1) {
-        0 => Slot::Boot,
-        _ => Slot::Update,
-    }
-}
-
-pub(crate) fn least(a: usize, b: usize) -> usize
-    ensures { (result ≤ a) × (result ≤ b) }
-{
-    if a < b { a } else { b }
-}
-
-// Lays bytes over a flash from an offset on, as far as it goes.
-fn lay(bytes: &[u8], flash: &mut [u8], at: usize) {
-    if at < flash.len() {
-        let end = at + least(bytes.len(), flash.len() - at);
-        copy(bytes, &mut flash[at..end]);
-    }
-}
-
-// Lays the first patch over a flash, and answers how many bytes it takes: an offset (2 bytes), a length
-// (2) and as many bytes.
-fn patch(flash: &mut [u8], s: &[u8]) -> usize
-    ensures { 0 < result }
-{
-    let n = u16_at(s, 2) as usize;
-    lay(part(s, 4, n), flash, u16_at(s, 0) as usize);
-    4 + n
-}
-
-pub(crate) fn patches(flash: &mut [u8], s: &[u8]) {
-    let mut p = 0;
-    while p < s.len() {
-        let size = patch(flash, part(s, p, s.len() - p));
-        if s.len() - p < size {
-            return;
+impl Head {
+    pub(crate) fn slot(&self) -> Slot {
+        match self.kind {
+            0 => Slot::Boot,
+            _ => Slot::Update,
         }
-        p += size;
+    }
+}
+
+impl Patch<'_> {
+    // As far as the flash goes.
+    pub(crate) fn lay(self, flash: &mut [u8]) {
+        for (to, byte) in flash.iter_mut().skip(self.at).zip(self.bytes) {
+            *to = *byte;
+        }
     }
 }

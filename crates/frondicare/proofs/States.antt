@@ -11,7 +11,7 @@ use Rattle.flash.specs.Geometry.{geometry_check}
 use Rattle.slots.specs.Answers.{sound_answer, state_answer}
 use Rattle.slots.specs.Places.{trailer_of}
 use Rattle.slots.specs.Trailers.{state, sound_with, state_of}
-use Rattle.slots.specs.declared.answers.SlotState.TheVariants.{Sound, NotSound, Refused}
+use Rattle.std.specs.Prelude.{Some, None, Ok, Err}
 use Rattle.compare.proofs.Tests.{never}
 use Rattle.frondicare.specs.States.{flat_state, StatesTold, StatesNumbered}
 
@@ -25,12 +25,12 @@ states_told g f s v small = record { only = only (eqb n 0) (sound (trailer_of g 
     x : ℕ
     x = state (trailer_of g f s)
 
-    only : (a b : Bool) → (flat_state (cond a (cond b (Sound x) NotSound) (Refused n))).state ≡ v → (a && (b && eqb x v)) ≡ true
+    only : (a b : Bool) → (flat_state (cond a (Ok (cond b (Some x) None)) (Err n))).state ≡ v → (a && (b && eqb x v)) ≡ true
     only true true e = eq-eqb x v e
     only true false e = absurd (omega arith)
     only false b e = absurd (omega arith)
 
-    always : (a b : Bool) → (a && (b && eqb x v)) ≡ true → (flat_state (cond a (cond b (Sound x) NotSound) (Refused n))).state ≡ v
+    always : (a b : Bool) → (a && (b && eqb x v)) ≡ true → (flat_state (cond a (Ok (cond b (Some x) None)) (Err n))).state ≡ v
     always true true e = eqb-true x v e
     always true false e = never (sym e)
     always false b e = never (sym e)
@@ -45,7 +45,7 @@ states_numbered g f s = go (eqb n 0) refl (sound (trailer_of g f s))
     x : ℕ
     x = state (trailer_of g f s)
 
-    go : (a : Bool) → eqb n 0 ≡ a → (b : Bool) → (flat_state (cond a (cond b (Sound x) NotSound) (Refused n))).number ≡ n
+    go : (a : Bool) → eqb n 0 ≡ a → (b : Bool) → (flat_state (cond a (Ok (cond b (Some x) None)) (Err n))).number ≡ n
     go true e true = sym (eqb-true n 0 e)
     go true e false = sym (eqb-true n 0 e)
     go false e b = refl

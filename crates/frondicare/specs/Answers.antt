@@ -1,13 +1,11 @@
 -- The number and the values that document 01 gives for each case of an answer, as C gets them.
-use Rattle.std.specs.Prelude.{ℕ, List, ◌≡◌}
+use Rattle.std.specs.Prelude.{ℕ, List, Option, Some, None, Result, Ok, Err, ◌≡◌}
 use Rattle.flash.specs.declared.steps.Step.{Step}
 use Rattle.flash.specs.declared.steps.Step.TheVariants.{Erase, Copy, Byte, Mark}
-use Rattle.loader.specs.declared.answers.Answer.{Answer}
-use Rattle.loader.specs.declared.answers.Answer.TheVariants as A
+use Rattle.loader.specs.Answers as A
+use Rattle.loader.specs.Answers.{Answer}
 use Rattle.runner.specs.Runs.{Outcome, Leaves}
 use Rattle.runner.specs.declared.counts.StepCounts.{StepCounts}
-use Rattle.slots.specs.declared.answers.Work.{Work}
-use Rattle.slots.specs.declared.answers.Work.TheVariants as W
 use Rattle.frondicare.specs.declared.loader_entries.FlatAnswer.{FlatAnswer}
 
 -- a step: its op, and its numbers as the simulator prints them
@@ -33,7 +31,7 @@ abbrev pub FlatLeaves : StepCounts → Outcome → FlatAnswer → List ℕ → S
 FlatLeaves c₀ o x f c = (x ≡ flat_answer o.answer) × Leaves c₀ o o.answer f c
 
 -- 0 step, 3 refused, 4 finished
-abbrev pub flat_work : Work → FlatAnswer
-flat_work (W.Due s) = flat_step 0 s
-flat_work W.Finished = flat_number 4 0
-flat_work (W.Refused n) = flat_number 3 n
+abbrev pub flat_work : Result (Option Step) ℕ → FlatAnswer
+flat_work (Ok (Some s)) = flat_step 0 s
+flat_work (Ok None) = flat_number 4 0
+flat_work (Err n) = flat_number 3 n

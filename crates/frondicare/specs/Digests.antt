@@ -1,7 +1,12 @@
--- What a digest's answer leaves in a lent buffer.
-use Rattle.std.specs.Prelude.{ℕ, cond, List, eqb}
-use Rattle.sha256.specs.declared.DigestAnswer.{DigestAnswer}
+-- What a digest's answer leaves in a lent buffer, and its number.
+use Rattle.std.specs.Prelude.{ℕ, List, Result, Ok, Err}
+
+-- the number of a refusal, or 0
+abbrev pub number_in : Result (List ℕ) ℕ → ℕ
+number_in (Ok bytes) = 0
+number_in (Err n) = n
 
 -- the answer's bytes, or where it refuses the buffer as it was
-abbrev pub filled : DigestAnswer → List ℕ → List ℕ
-filled a old = cond (eqb a.number 0) a.bytes old
+abbrev pub filled : Result (List ℕ) ℕ → List ℕ → List ℕ
+filled (Ok bytes) old = bytes
+filled (Err n) old = old

@@ -1,18 +1,16 @@
 -- What C gets of a slot's state. Claim: one comparison tells it; the state is the byte v exactly where the slot is sound with v.
-use Rattle.std.specs.Prelude.{ℕ, ◌<◌, true, List, ◌≡◌, length}
+use Rattle.std.specs.Prelude.{ℕ, ◌<◌, true, List, Option, Some, None, Result, Ok, Err, ◌≡◌, length}
 use Rattle.flash.specs.Geometry.{geometry_check}
 use Rattle.flash.specs.declared.geometry.Geometry.{Geometry}
 use Rattle.slots.specs.Answers.{sound_answer, state_answer}
-use Rattle.slots.specs.declared.answers.SlotState.{SlotState}
-use Rattle.slots.specs.declared.answers.SlotState.TheVariants.{Sound, NotSound, Refused}
 use Rattle.slots.specs.declared.places.Slot.{Slot}
 use Rattle.frondicare.specs.declared.state_entries.FlatState.{FlatState}
 
 -- the state byte, or 256, which is no byte; and the number of a refused geometry
-abbrev pub flat_state : SlotState → FlatState
-flat_state (Sound v) = record { number = 0; state = v }
-flat_state NotSound = record { number = 0; state = 256 }
-flat_state (Refused n) = record { number = n; state = 256 }
+abbrev pub flat_state : Result (Option ℕ) ℕ → FlatState
+flat_state (Ok (Some v)) = record { number = 0; state = v }
+flat_state (Ok None) = record { number = 0; state = 256 }
+flat_state (Err n) = record { number = n; state = 256 }
 
 pub record Tells (g : Geometry) (f : List ℕ) (s : Slot) (v : ℕ) : Type 0 where
   pub only : (flat_state (state_answer g f s)).state ≡ v → sound_answer g f s v ≡ true

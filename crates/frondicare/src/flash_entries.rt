@@ -1,16 +1,21 @@
 // The entries on a flash. C has no geometry and no step: both come as numbers.
-ghost use Rattle.std.specs.Prelude.{◌≡◌, length};
+ghost use Rattle.std.specs.Prelude.{None, ◌≡◌, length};
 ghost use Rattle.flash.specs.Geometry.{geometry_check};
+ghost use Rattle.refusal.specs.Numbers.{number_or_zero};
 ghost use Rattle.frondicare.specs.Steps.{geometry_of, step_of, number_of, flash_left};
-ghost use Rattle.frondicare.specs.declared.flash_entries.OptionalStep.TheVariants.{None};
 
+use crate::number_or_zero;
 use flash::{Geometry, Step, apply_step, check_geometry};
+use refusal::Refusal;
 
-#[derive(Clone, Copy)]
-pub(crate) enum OptionalStep {
-    Some(Step),
-    None,
-}
+// A step's op.
+pub(crate) const ERASE: u32 = 0;
+
+pub(crate) const COPY: u32 = 1;
+
+pub(crate) const BYTE: u32 = 2;
+
+pub(crate) const MARK: u32 = 3;
 
 pub(crate) fn geometry_of(
     size: usize,
@@ -42,37 +47,32 @@ pub extern "C" fn frondicare_check_geometry(
 ) -> u32
     ensures { result ≡ geometry_check (geometry_of sector_size sector_count boot update swap) flash_len }
 {
-    check_geometry(
+    number_or_zero(check_geometry(
         geometry_of(sector_size, sector_count, boot, update, swap),
         flash_len,
-    )
+    ))
 }
 
 // The step that an op and its arguments stand for. A value above 255 is no byte.
-pub(crate) fn step_of(op: u32, at: usize, to: usize, value: u32) -> OptionalStep
+#[tactic(auto, unfolding(crate::specs::Steps::step_of))]
+pub(crate) fn step_of(op: u32, at: usize, to: usize, value: u32) -> Option<Step>
     ensures { result ≡ step_of op at to value }
 {
     match op {
-        0 => OptionalStep::Some(Step::Erase(at)),
-        1 => OptionalStep::Some(Step::Copy(at, to)),
-        2 => {
-            if value <= 255 {
-                OptionalStep::Some(Step::Byte(at, value as u8))
-            } else {
-                OptionalStep::None
-            }
-        }
-        3 => OptionalStep::Some(Step::Mark(at)),
-        _ => OptionalStep::None,
+        ERASE => Some(Step::Erase(at)),
+        COPY => Some(Step::Copy(at, to)),
+        BYTE => Some(Step::Byte(at, u8::try_from(value).ok()?)),
+        MARK => Some(Step::Mark(at)),
+        _ => None,
     }
 }
 
-// What is answered where there is no step: the geometry's number first.
-fn no_step(g: Geometry, len: usize) -> u32
-    ensures { result ≡ number_of g len None }
+// What is answered where there is no step: the geometry's refusal first.
+fn no_step(g: Geometry, len: usize) -> Result<(), Refusal>
+    ensures { number_or_zero result ≡ number_of g len None }
 {
-    let number = check_geometry(g, len);
-    if number == 0 { 24 } else { number }
+    check_geometry(g, len)?;
+    Err(Refusal::Step)
 }
 
 // Carries a step out and answers 0, or answers document 01's number and changes nothing.
@@ -94,7 +94,7 @@ pub extern "C" fn frondicare_apply_step(
 {
     let g = geometry_of(sector_size, sector_count, boot, update, swap);
     match step_of(op, at, to, value) {
-        OptionalStep::Some(step) => apply_step(flash, g, step),
-        OptionalStep::None => no_step(g, flash.len()),
+        Some(step) => number_or_zero(apply_step(flash, g, step)),
+        None => number_or_zero(no_step(g, flash.len())),
     }
 }

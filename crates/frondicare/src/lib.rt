@@ -1,5 +1,6 @@
 // The C library: entries on numbers and byte slices only, which decide nothing themselves.
-// include/frondicare.h declares them for C.
+// include/frondicare.h declares them for C. C knows neither Result nor an enum with data: so here alone a refusal is a
+// number, 0 where there is none, an answer is flat, and a geometry is five numbers.
 #![tactic(auto)]
 
 mod flash_entries;
@@ -12,39 +13,95 @@ ghost use Rattle.std.specs.Prelude.{◌≡◌, ◌++◌};
 ghost use Rattle.header.specs.Checks.{version_of};
 ghost use Rattle.header.specs.Lookup.{lookup};
 ghost use Rattle.image.specs.Verdict.{verdict};
+ghost use Rattle.refusal.specs.Numbers.{numbered, number_or_zero};
 ghost use Rattle.sha256.specs.Digest.{answer};
 ghost use Rattle.writer.specs.Writer.{to_sign, write_check, buffer_after};
-ghost use Rattle.frondicare.specs.Digests.{filled};
+ghost use Rattle.frondicare.specs.Digests.{number_in, filled};
 ghost use Rattle.frondicare.specs.Tags.{place_of, flat_version};
 
-use header::Lookup;
-use writer::Fields;
+use header::Tag;
+use refusal::Refusal;
+use writer::{Contents, Fields};
 
 // Where a tag's content lies in its header, with the number 0; or document 01's number, and zeros.
 #[repr(C)]
-#[derive(Clone, Copy)]
+#[derive(Clone, Copy, Debug, PartialEq, Eq, Default)]
 pub struct TagPlace {
     pub number: u32,
     pub at: usize,
     pub len: usize,
 }
 
+impl From<Result<Tag, Refusal>> for TagPlace {
+    ghost from_gives = { λ tag place. place ≡ place_of (numbered tag) };
+
+    fn from(tag: Result<Tag, Refusal>) -> TagPlace {
+        match tag {
+            Ok(t) => TagPlace {
+                number: 0,
+                at: t.at,
+                len: t.len,
+            },
+            Err(refusal) => TagPlace {
+                number: refusal.number(),
+                ..TagPlace::default()
+            },
+        }
+    }
+}
+
 // An image's version, with the number 0; or document 01's number, and 0.
 #[repr(C)]
-#[derive(Clone, Copy)]
+#[derive(Clone, Copy, Debug, PartialEq, Eq)]
 pub struct FlatVersion {
     pub number: u32,
     pub version: u32,
 }
 
-// Stores the digest of a message and answers 0, or answers document 01's number and stores nothing.
+impl From<Result<u32, Refusal>> for FlatVersion {
+    ghost from_gives = { λ version flat. flat ≡ flat_version (numbered version) };
+
+    fn from(version: Result<u32, Refusal>) -> FlatVersion {
+        match version {
+            Ok(version) => FlatVersion { number: 0, version },
+            Err(refusal) => FlatVersion {
+                number: refusal.number(),
+                version: 0,
+            },
+        }
+    }
+}
+
+pub(crate) fn number_or_zero(answer: Result<(), Refusal>) -> u32
+    ensures { result ≡ number_or_zero answer }
+{
+    match answer {
+        Ok(()) => 0,
+        Err(why) => why.number(),
+    }
+}
+
+// Stores the bytes and answers 0, or answers document 01's number and stores nothing.
+fn store(answer: Result<[u8; 32], Refusal>, digest: &mut [u8; 32]) -> u32
+    ensures number { result ≡ number_in (numbered answer) }
+    ensures bytes { digest.new ≡ filled (numbered answer) digest.old }
+{
+    match answer {
+        Ok(bytes) => {
+            *digest = bytes;
+            0
+        }
+        Err(refusal) => refusal.number(),
+    }
+}
+
+// Stores the digest of a message.
 #[unsafe(no_mangle)]
 pub extern "C" fn frondicare_digest(message: &[u8], digest: &mut [u8; 32]) -> u32
-    ensures number { result ≡ (answer message.now).number }
+    ensures number { result ≡ number_in (answer message.now) }
     ensures bytes { digest.new ≡ filled (answer message.now) digest.old }
 {
-    let a = sha256::digest(message);
-    store(a, digest)
+    store(sha256::digest(message), digest)
 }
 
 // The same for a message in two pieces.
@@ -54,22 +111,10 @@ pub extern "C" fn frondicare_digest_of_two(
     second: &[u8],
     digest: &mut [u8; 32],
 ) -> u32
-    ensures number { result ≡ (answer (first.now ++ second.now)).number }
+    ensures number { result ≡ number_in (answer (first.now ++ second.now)) }
     ensures bytes { digest.new ≡ filled (answer (first.now ++ second.now)) digest.old }
 {
-    let a = sha256::digest_of_two(first, second);
-    store(a, digest)
-}
-
-fn store(a: sha256::DigestAnswer, digest: &mut [u8; 32]) -> u32
-    ensures number { result ≡ a.number }
-    ensures bytes { digest.new ≡ filled a digest.old }
-{
-    let bytes = a.bytes;
-    if a.number == 0 {
-        *digest = bytes;
-    }
-    a.number
+    store(sha256::digest_of_two(first, second), digest)
 }
 
 // The verdict on an image: 0, or the number of the first check that it fails.
@@ -77,7 +122,7 @@ fn store(a: sha256::DigestAnswer, digest: &mut [u8; 32]) -> u32
 pub extern "C" fn frondicare_verify(image: &[u8], signature_ok: bool) -> u32
     ensures { result ≡ verdict image.now signature_ok }
 {
-    image::verify(image, signature_ok)
+    number_or_zero(image::verify(image, signature_ok))
 }
 
 // The first tag of a type in a header.
@@ -85,18 +130,7 @@ pub extern "C" fn frondicare_verify(image: &[u8], signature_ok: bool) -> u32
 pub extern "C" fn frondicare_find_tag(header: &[u8], kind: u16) -> TagPlace
     ensures { result ≡ place_of (lookup header.now kind) }
 {
-    match header::find_tag(header, kind) {
-        Lookup::Found(t) => TagPlace {
-            number: 0,
-            at: t.at,
-            len: t.len,
-        },
-        Lookup::Refused(number) => TagPlace {
-            number,
-            at: 0,
-            len: 0,
-        },
-    }
+    header::find_tag(header, kind).into()
 }
 
 // The version in the header of an image.
@@ -104,15 +138,10 @@ pub extern "C" fn frondicare_find_tag(header: &[u8], kind: u16) -> TagPlace
 pub extern "C" fn frondicare_version_of(image: &[u8]) -> FlatVersion
     ensures { result ≡ flat_version (version_of image.now) }
 {
-    let v = header::version_of(image);
-    FlatVersion {
-        number: v.number,
-        version: v.version,
-    }
+    header::version_of(image).into()
 }
 
-// The writer's first call: stores the digest to be signed and answers 0, or answers document 01's
-// number and stores nothing.
+// The writer's first call: stores the digest to be signed.
 #[unsafe(no_mangle)]
 pub extern "C" fn frondicare_digest_to_sign(
     fields: Fields,
@@ -121,11 +150,16 @@ pub extern "C" fn frondicare_digest_to_sign(
     hint: &[u8; 32],
     digest: &mut [u8; 32],
 ) -> u32
-    ensures number { result ≡ (to_sign fields firmware.now custom.now hint.now).number }
+    ensures number { result ≡ number_in (to_sign fields firmware.now custom.now hint.now) }
     ensures bytes { digest.new ≡ filled (to_sign fields firmware.now custom.now hint.now) digest.old }
 {
-    let a = writer::digest_to_sign(fields, firmware, custom, hint);
-    store(a, digest)
+    let contents = Contents {
+        fields,
+        firmware,
+        custom,
+        hint,
+    };
+    store(contents.digest_to_sign(), digest)
 }
 
 // The writer's second call: the same for the header.
@@ -141,5 +175,11 @@ pub extern "C" fn frondicare_write_header(
     ensures number { result ≡ write_check buffer.old firmware.now custom.now }
     ensures bytes { buffer.new ≡ buffer_after buffer.old fields firmware.now custom.now hint.now signature.now }
 {
-    writer::write_header(buffer, fields, firmware, custom, hint, signature)
+    let contents = Contents {
+        fields,
+        firmware,
+        custom,
+        hint,
+    };
+    number_or_zero(contents.write_header(buffer, signature))
 }

@@ -1,21 +1,33 @@
 // The entries that say what to do next: the next step, trigger and confirm. C has no enum with data, so an
 // answer goes out as numbers.
 ghost use Rattle.std.specs.Prelude.{◌≡◌};
+ghost use Rattle.loader.specs.Answers.{numbered_answer};
 ghost use Rattle.loader.specs.Checks.{image_checks};
 ghost use Rattle.loader.specs.Decisions.{next_step};
 ghost use Rattle.loader.specs.Requests.{trigger_answer, confirm_answer};
+ghost use Rattle.refusal.specs.Numbers.{number, numbered};
 ghost use Rattle.frondicare.specs.Answers.{flat_step, flat_number, flat_answer, flat_work};
 ghost use Rattle.frondicare.specs.Steps.{geometry_of};
 
-use crate::flash_entries::geometry_of;
+use crate::flash_entries::{BYTE, COPY, ERASE, MARK, geometry_of};
 use flash::Step;
-use loader::Answer;
-use slots::Work;
+use loader::{Answer, Signed};
+use refusal::Refusal;
 
-// kind: 0 step, 1 last step, 2 boot, 3 refused, 4 finished. A step's op and numbers are those that
-// frondicare_apply_step takes. What an answer doesn't use is 0.
+// An answer's kind.
+const STEP: u32 = 0;
+
+const LAST_STEP: u32 = 1;
+
+const BOOT: u32 = 2;
+
+const REFUSED: u32 = 3;
+
+const FINISHED: u32 = 4;
+
+// A step's op and numbers are those that frondicare_apply_step takes. What an answer doesn't use is 0.
 #[repr(C)]
-#[derive(Clone, Copy)]
+#[derive(Clone, Copy, Debug, PartialEq, Eq, Default)]
 pub struct FlatAnswer {
     pub kind: u32,
     pub number: u32,
@@ -25,27 +37,36 @@ pub struct FlatAnswer {
     pub to: usize,
 }
 
-fn flat(kind: u32, op: u32, value: u32, at: usize, to: usize) -> FlatAnswer
-    ensures { result ≡ record { kind = kind; number = 0; op = op; value = value; at = at; to = to } }
-{
-    FlatAnswer {
-        kind,
-        number: 0,
-        op,
-        value,
-        at,
-        to,
-    }
-}
-
 fn flat_step(kind: u32, step: Step) -> FlatAnswer
     ensures { result ≡ flat_step kind step }
 {
+    let rest = FlatAnswer {
+        kind,
+        ..FlatAnswer::default()
+    };
     match step {
-        Step::Erase(at) => flat(kind, 0, 0, at, 0),
-        Step::Copy(from, to) => flat(kind, 1, 0, from, to),
-        Step::Byte(at, value) => flat(kind, 2, value as u32, at, 0),
-        Step::Mark(at) => flat(kind, 3, 0, at, 0),
+        Step::Erase(at) => FlatAnswer {
+            op: ERASE,
+            at,
+            ..rest
+        },
+        Step::Copy(from, to) => FlatAnswer {
+            op: COPY,
+            at: from,
+            to,
+            ..rest
+        },
+        Step::Byte(at, value) => FlatAnswer {
+            op: BYTE,
+            at,
+            value: value as u32,
+            ..rest
+        },
+        Step::Mark(at) => FlatAnswer {
+            op: MARK,
+            at,
+            ..rest
+        },
     }
 }
 
@@ -55,31 +76,41 @@ fn flat_number(kind: u32, number: u32) -> FlatAnswer
     FlatAnswer {
         kind,
         number,
-        op: 0,
-        value: 0,
-        at: 0,
-        to: 0,
+        ..FlatAnswer::default()
     }
 }
 
-fn flat_work(work: Work) -> FlatAnswer
-    ensures { result ≡ flat_work work }
-{
-    match work {
-        Work::Due(step) => flat_step(0, step),
-        Work::Finished => flat_number(4, 0),
-        Work::Refused(number) => flat_number(3, number),
+impl From<Refusal> for FlatAnswer {
+    ghost from_gives = { λ refusal flat. flat ≡ flat_number 3 (number refusal) };
+
+    fn from(refusal: Refusal) -> FlatAnswer {
+        flat_number(REFUSED, refusal.number())
     }
 }
 
-pub(crate) fn flat_answer(answer: Answer) -> FlatAnswer
-    ensures { result ≡ flat_answer answer }
-{
-    match answer {
-        Answer::Step(step) => flat_step(0, step),
-        Answer::LastStep(step) => flat_step(1, step),
-        Answer::Boot(why) => flat_number(2, why),
-        Answer::Refused(number) => flat_number(3, number),
+impl From<Result<Option<Step>, Refusal>> for FlatAnswer {
+    ghost from_gives = { λ work flat. flat ≡ flat_work (numbered work) };
+
+    fn from(work: Result<Option<Step>, Refusal>) -> FlatAnswer {
+        match work {
+            Ok(Some(step)) => flat_step(STEP, step),
+            Ok(None) => flat_number(FINISHED, 0),
+            Err(refusal) => refusal.into(),
+        }
+    }
+}
+
+impl From<Result<Answer, Refusal>> for FlatAnswer {
+    ghost from_gives = { λ answer flat. flat ≡ flat_answer (numbered_answer answer) };
+
+    fn from(answer: Result<Answer, Refusal>) -> FlatAnswer {
+        match answer {
+            Ok(Answer::Step(step)) => flat_step(STEP, step),
+            Ok(Answer::LastStep(step)) => flat_step(LAST_STEP, step),
+            Ok(Answer::Boot(None)) => flat_number(BOOT, 0),
+            Ok(Answer::Boot(Some(why))) => flat_number(BOOT, why.number()),
+            Err(refusal) => refusal.into(),
+        }
     }
 }
 
@@ -98,7 +129,11 @@ pub extern "C" fn frondicare_next_step(
     ensures { result ≡ flat_answer (next_step image_checks (geometry_of sector_size sector_count boot update swap) flash.now boot_signed update_signed) }
 {
     let g = geometry_of(sector_size, sector_count, boot, update, swap);
-    flat_answer(loader::next_step(flash, g, boot_signed, update_signed))
+    let signed = Signed {
+        boot: boot_signed,
+        update: update_signed,
+    };
+    loader::next_step(flash, g, signed).into()
 }
 
 // The next step that stages UPDATE's image, or finished.
@@ -114,7 +149,7 @@ pub extern "C" fn frondicare_trigger(
     ensures { result ≡ flat_work (trigger_answer (geometry_of sector_size sector_count boot update swap) flash.now) }
 {
     let g = geometry_of(sector_size, sector_count, boot, update, swap);
-    flat_work(loader::trigger(flash, g))
+    loader::trigger(flash, g).into()
 }
 
 // The step that confirms the image on trial, or finished.
@@ -130,5 +165,5 @@ pub extern "C" fn frondicare_confirm(
     ensures { result ≡ flat_work (confirm_answer (geometry_of sector_size sector_count boot update swap) flash.now) }
 {
     let g = geometry_of(sector_size, sector_count, boot, update, swap);
-    flat_work(loader::confirm(flash, g))
+    loader::confirm(flash, g).into()
 }

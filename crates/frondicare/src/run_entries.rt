@@ -1,17 +1,18 @@
 // The entries of the run, and of the record in which it counts its steps. Each passes the
 // caller's record on and decides nothing itself.
-ghost use Rattle.std.specs.Prelude.{cond, ◌≡◌};
+ghost use Rattle.std.specs.Prelude.{◌≡◌};
 ghost use Rattle.loader.specs.Checks.{image_checks};
 ghost use Rattle.runner.specs.MostSteps.{most_steps_of};
 ghost use Rattle.runner.specs.Runs.{run_of};
 ghost use Rattle.frondicare.specs.Additions.{step_by, addition_check, counts_left};
 ghost use Rattle.frondicare.specs.Answers.{FlatLeaves};
 ghost use Rattle.frondicare.specs.Steps.{geometry_of};
-ghost use Rattle.frondicare.specs.declared.flash_entries.OptionalStep.TheVariants.{Some, None};
 
-use crate::flash_entries::{OptionalStep, geometry_of, step_of};
-use crate::loader_entries::{FlatAnswer, flat_answer};
-use flash::Step;
+use crate::flash_entries::{geometry_of, step_of};
+use crate::loader_entries::FlatAnswer;
+use crate::number_or_zero;
+use loader::Signed;
+use refusal::Refusal;
 use runner::{StepCounts, add_step, run};
 
 // Decides and does up to a number of steps, each counted in the caller's record as it is done.
@@ -32,7 +33,11 @@ pub extern "C" fn frondicare_run(
         update_signed flash.old counts.old) result flash.new counts.new }
 {
     let g = geometry_of(sector_size, sector_count, boot, update, swap);
-    flat_answer(run(flash, g, boot_signed, update_signed, most_steps, counts))
+    let signed = Signed {
+        boot: boot_signed,
+        update: update_signed,
+    };
+    run(flash, g, signed, most_steps, counts).into()
 }
 
 // No run does more steps, and with this number it always ends.
@@ -43,35 +48,14 @@ pub extern "C" fn frondicare_most_steps(sector_count: usize) -> u32
     runner::most_steps(sector_count)
 }
 
-// Whether an op stands for a step, and that step.
-#[derive(Clone, Copy)]
-struct AskedStep {
-    known: bool,
-    step: Step,
-}
-
-fn asked_step(op: u32) -> AskedStep
-    ensures { step_by op ≡ cond result.known (Some result.step) None }
-{
-    match step_of(op, 0, 0, 0) {
-        OptionalStep::Some(step) => AskedStep { known: true, step },
-        OptionalStep::None => AskedStep {
-            known: false,
-            step: Step::Erase(0),
-        },
-    }
-}
-
 // Adds one finished step, by its op, to the caller's record and answers 0, or answers document 01's
 // number and changes nothing.
 #[unsafe(no_mangle)]
 pub extern "C" fn frondicare_add_step(counts: &mut StepCounts, op: u32) -> u32
     ensures { (result ≡ addition_check counts.old (step_by op)) × (counts.new ≡ counts_left counts.old (step_by op)) }
 {
-    let asked = asked_step(op);
-    if asked.known {
-        add_step(counts, asked.step)
-    } else {
-        24
+    match step_of(op, 0, 0, 0) {
+        Some(step) => number_or_zero(add_step(counts, step)),
+        None => Refusal::Step.number(),
     }
 }

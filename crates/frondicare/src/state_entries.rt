@@ -1,13 +1,15 @@
 // The entries that say how a flash stands: each slot's state, and whether it is mid-swap.
 ghost use Rattle.std.specs.Prelude.{◌≡◌};
 ghost use Rattle.loader.specs.MidSwap.{mid_swap_answer};
+ghost use Rattle.refusal.specs.Numbers.{numbered};
 ghost use Rattle.slots.specs.Answers.{state_answer};
 ghost use Rattle.slots.specs.declared.places.Slot.TheVariants.{Boot, Update};
 ghost use Rattle.frondicare.specs.States.{flat_state};
 ghost use Rattle.frondicare.specs.Steps.{geometry_of};
 
 use crate::flash_entries::geometry_of;
-use slots::{Slot, SlotState};
+use refusal::Refusal;
+use slots::Slot;
 
 // No byte, so that it is never taken for a state.
 const NO_STATE: u32 = 256;
@@ -15,28 +17,30 @@ const NO_STATE: u32 = 256;
 // The state byte of a sound trailer; NO_STATE where it is not sound, or where number says why the geometry
 // is refused.
 #[repr(C)]
-#[derive(Clone, Copy)]
+#[derive(Clone, Copy, Debug, PartialEq, Eq)]
 pub struct FlatState {
     pub number: u32,
     pub state: u32,
 }
 
-fn flat_state(state: SlotState) -> FlatState
-    ensures { result ≡ flat_state state }
-{
-    match state {
-        SlotState::Sound(byte) => FlatState {
-            number: 0,
-            state: byte as u32,
-        },
-        SlotState::NotSound => FlatState {
-            number: 0,
-            state: NO_STATE,
-        },
-        SlotState::Refused(number) => FlatState {
-            number,
-            state: NO_STATE,
-        },
+impl From<Result<Option<u8>, Refusal>> for FlatState {
+    ghost from_gives = { λ state flat. flat ≡ flat_state (numbered state) };
+
+    fn from(state: Result<Option<u8>, Refusal>) -> FlatState {
+        match state {
+            Ok(Some(byte)) => FlatState {
+                number: 0,
+                state: byte as u32,
+            },
+            Ok(None) => FlatState {
+                number: 0,
+                state: NO_STATE,
+            },
+            Err(refusal) => FlatState {
+                number: refusal.number(),
+                state: NO_STATE,
+            },
+        }
     }
 }
 
@@ -53,7 +57,7 @@ pub extern "C" fn frondicare_boot_state(
     ensures { result ≡ flat_state (state_answer (geometry_of sector_size sector_count boot update swap) flash.now Boot) }
 {
     let g = geometry_of(sector_size, sector_count, boot, update, swap);
-    flat_state(slots::state(flash, g, Slot::Boot))
+    slots::state(flash, g, Slot::Boot).into()
 }
 
 // UPDATE's state.
@@ -69,7 +73,7 @@ pub extern "C" fn frondicare_update_state(
     ensures { result ≡ flat_state (state_answer (geometry_of sector_size sector_count boot update swap) flash.now Update) }
 {
     let g = geometry_of(sector_size, sector_count, boot, update, swap);
-    flat_state(slots::state(flash, g, Slot::Update))
+    slots::state(flash, g, Slot::Update).into()
 }
 
 // Whether it is mid-swap; not where the geometry is refused.

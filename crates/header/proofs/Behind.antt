@@ -11,7 +11,7 @@ use borrow.Author.Tests.{eqb-true, eq-eqb, lt-ltb, le-ltb}
 use Rattle.compare.proofs.Tests.{by_test, never}
 use Rattle.header.specs.Checks.{first_refusal, Mandatory, covered_check, digest_tag, tags_check, coverage_check}
 use Rattle.header.specs.Lookup.{of_kind}
-use Rattle.header.specs.Seen.{number_after, must_be_covered, uncovered_after}
+use Rattle.header.specs.Seen.{must_be_covered, uncovered_after}
 use Rattle.header.specs.Types.{version_type, timestamp_type, firmware_type_type}
 use Rattle.header.specs.declared.tags.Tag.{Tag}
 use Rattle.header.proofs.Order.{Ordered, none, one, first-is}
@@ -32,30 +32,24 @@ module _ (m : Mandatory) where
   abbrev late : ℕ → List Tag → Bool
   late k ts = some (has_type k) (behind ts)
 
-  -- whether something is uncovered after some tags; d is the number of type m before them
-  abbrev pub uncovered_all : ℕ → Bool → List Tag → Bool
+  -- whether something is uncovered after some tags; d says whether a tag of type m was met before them
+  abbrev pub uncovered_all : Bool → Bool → List Tag → Bool
   uncovered_all d u [] = u
-  uncovered_all d u (t ∷ ts) = uncovered_all (number_after m d t) (uncovered_after d u t) ts
+  uncovered_all d u (t ∷ ts) = uncovered_all (d || eqb t.kind m.kind) (uncovered_after d u t) ts
 
   -- behind a tag of type m each tag counts
-  from_first : (d : ℕ) (u : Bool) (ts : List Tag) → eqb d 14 ≡ false → uncovered_all d u ts ≡ (u || some must ts)
-  from_first d true [] n = refl
-  from_first d false [] n = refl
-  from_first d u (t ∷ ts) n =
-      rw n
-      (from_first (cond (eqb t.kind m.kind) 15 d) _ ts (by_test (λ (r : ℕ). eqb r 14 ≡ false) (eqb t.kind m.kind) (λ b. refl) (λ b. n))
-      ∙ or_assoc u (must t) (some must ts))
+  from_first : (u : Bool) (ts : List Tag) → uncovered_all true u ts ≡ (u || some must ts)
+  from_first true [] = refl
+  from_first false [] = refl
+  from_first u (t ∷ ts) = from_first (u || must t) ts ∙ or_assoc u (must t) (some must ts)
 
   -- before it none does
-  from_start : (ts : List Tag) → uncovered_all 14 false ts ≡ some must (behind ts)
+  from_start : (ts : List Tag) → uncovered_all false false ts ≡ some must (behind ts)
   from_start [] = refl
   from_start (t ∷ ts) = go (eqb t.kind m.kind) (from_start ts)
     where
-      go :
-          (b : Bool) →
-          uncovered_all 14 false ts ≡ some must (behind ts) →
-          uncovered_all (cond b (cond (eqb t.len m.len) 0 16) 14) false ts ≡ some must (cond b ts (behind ts))
-      go true ih = from_first _ false ts (by_test (λ (r : ℕ). eqb r 14 ≡ false) (eqb t.len m.len) (λ b. refl) (λ b. refl))
+      go : (b : Bool) → uncovered_all false false ts ≡ some must (behind ts) → uncovered_all b false ts ≡ some must (cond b ts (behind ts))
+      go true ih = from_first false ts
       go false ih = ih
 
   -- where there is no tag of a type, none stands behind
@@ -119,7 +113,7 @@ first_of_three false false true = refl
 first_of_three false false false = refl
 
 -- where each mandatory type has its one tag, this is what the check says
-pub coverage_told : (ts : List Tag) → Ordered ts → tags_check ts ≡ 0 → cond (uncovered_all digest_tag 14 false ts) 30 0 ≡ coverage_check ts
+pub coverage_told : (ts : List Tag) → Ordered ts → tags_check ts ≡ 0 → cond (uncovered_all digest_tag false false ts) 30 0 ≡ coverage_check ts
 unfolding coverage_check
 coverage_told ts o e =
     let m = digest_tag in

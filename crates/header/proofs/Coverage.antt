@@ -11,13 +11,12 @@ use lib.ListN.{length, take, length-take}
 use lib.Seq.{length-take-le, take-take}
 use borrow.Author.Tests.{ltb-true, lt-ltb, ne_eqb}
 use Rattle.compare.proofs.Tests.{by_test}
+use Rattle.std.specs.Prelude.{Result, Ok, Err}
 use Rattle.header.specs.Checks.{first_refusal, length_check, mark_check, size_check, walk_check, tags_check, covered_types, covered_check, coverage_check, header_check, version_of}
 use Rattle.header.specs.Coverage.{Covered, AllCovered, earlier_checks, CoverageChecked}
 use Rattle.header.specs.Lookup.{lookup, view_of, before_tag, covered_of, of_kind}
 use Rattle.header.specs.Types.{version_type, timestamp_type, digest_type, firmware_type_type}
 use Rattle.header.specs.Walk.{header_walk}
-use Rattle.header.specs.declared.tags.Lookup.TheVariants.{Found, Refused}
-use Rattle.header.specs.declared.tags.Lookup.{Lookup}
 use Rattle.header.specs.declared.tags.Tag.{Tag}
 use Rattle.header.proofs.Lookups.{InHeader, looked_up}
 use Rattle.header.proofs.Order.{apart, ordered, first-is}
@@ -26,7 +25,7 @@ use Rattle.header.proofs.Refusals.{first_one, zero_at, then_last, Once, passed}
 use Rattle.header.proofs.Shown.{agrees}
 
 -- what the digest covers ends where the digest tag starts
-pub covered-length : (i : List ℕ) {d : Tag} → lookup i digest_type ≡ Found d → length (covered_of i) + 4 ≡ d.at
+pub covered-length : (i : List ℕ) {d : Tag} → lookup i digest_type ≡ Ok d → length (covered_of i) + 4 ≡ d.at
 covered-length i {d} f = let g : InHeader i d = looked_up i digest_type f in rw (f, length-take-le (d.at - 4) i (omega arith)) (omega arith)
 
 -- the check of one type
@@ -71,7 +70,7 @@ covered-passes i k c [] ds e f = refl
 covered-passes i k c (t ∷ ts) [] e f = refl
 covered-passes i k c (t ∷ ts) (d ∷ ds) e f =
     let long = (looked_up i k c.found).long in
-    let found : lookup i k ≡ Found t = (agrees i k).found t ts long e in
+    let found : lookup i k ≡ Ok t = (agrees i k).found t ts long e in
     let same : t ≡ c.tag = cc in
     let at : t.at ≡ c.tag.at = ap (λ (t : Tag). t.at) same in
     rw (lt-ltb t.at d.at (omega (arith, covered-length i ((agrees i digest_type).found d ds long f))))
@@ -140,9 +139,9 @@ coverage_checked =
 pub covered_start : (i : List ℕ) (m : ℕ) → m ≤ length (covered_of i) → take m (covered_of i) ≡ take m i
 covered_start i m = go (lookup i digest_type)
   where
-    go : (r : Lookup) → m ≤ length (before_tag i r) → take m (before_tag i r) ≡ take m i
-    go (Found d) l = take-take m (d.at - 4) i (omega (arith, simp length-take at l))
-    go (Refused n) l = let z : m ≡ 0 = omega arith in rw z
+    go : (r : Result Tag ℕ) → m ≤ length (before_tag i r) → take m (before_tag i r) ≡ take m i
+    go (Ok d) l = take-take m (d.at - 4) i (omega (arith, simp length-take at l))
+    go (Err n) l = let z : m ≡ 0 = omega arith in rw z
 
 -- headers with the same covered part agree on what is covered
 pub covered_same : (i j : List ℕ) (k : ℕ) → covered_of i ≡ covered_of j → Covered i k → Covered j k → view_of i k ≡ view_of j k
@@ -151,7 +150,7 @@ covered_same i j k e c d =
     let inside : t.at + t.len ≤ length (covered_of j) = rw e at c.inside in
     let same : take t.at i ≡ take t.at j =
     sym (covered_start i t.at (omega (arith, c.inside))) ∙ ap (take t.at) e ∙ covered_start j t.at (omega arith) in
-    let found : lookup j k ≡ Found t =
+    let found : lookup j k ≡ Ok t =
     lookup-same i j t.at same k (omega arith) (looked_up j k d.found).long c.found in
     let tag : d.tag ≡ t = cc in
     c.shown ∙ rw (e, ← tag) (sym d.shown)

@@ -9,4 +9,5 @@ pub mod SomeTag
 pub mod Behind
 pub mod OneWalk
 pub mod Shown
+pub mod Items
 pub mod Coverage

@@ -6,13 +6,11 @@ use mathlib.Core.List.{List, [], ◌∷◌}
 use mathlib.Core.Path.{◌≡◌, refl, sym, ap, ◌∙◌}
 use native.Mathlib.Omega.{arith}
 use lib.ListN.{length}
+use Rattle.std.specs.Prelude.{Option, Some, None, Ok}
 use Rattle.header.specs.Listing.{listing, TagsListed}
 use Rattle.header.specs.Lookup.{matches, first, lookup_from, lookup, of_kind}
 use Rattle.header.specs.Walk.{Walk, walk}
-use Rattle.header.specs.declared.tags.Lookup.TheVariants.{Found}
 use Rattle.header.specs.declared.tags.Tag.{Tag}
-use Rattle.header.specs.declared.tags.Wanted.TheVariants.{Any, Kind}
-use Rattle.header.specs.declared.tags.Wanted.{Wanted}
 use Rattle.header.proofs.Lookups.{stops, too_short, bad_start, walked, found_from}
 use Rattle.header.proofs.Walk.{Good, meets, step_end, walk_ind}
 
@@ -25,23 +23,23 @@ few s e =
     (λ q t g ih. omega arith)
 
 -- the wanted ones of some tags
-abbrev wanted_of : Wanted → List Tag → List Tag
+abbrev wanted_of : Option ℕ → List Tag → List Tag
 wanted_of v [] = []
 wanted_of v (t ∷ ts) = cond (matches v t.kind) (t ∷ wanted_of v ts) (wanted_of v ts)
 
-any_wanted : (ts : List Tag) → wanted_of Any ts ≡ ts
+any_wanted : (ts : List Tag) → wanted_of None ts ≡ ts
 any_wanted [] = refl
 any_wanted (t ∷ ts) = ap (λ (us : List Tag). t ∷ us) (any_wanted ts)
 
-kind_wanted : (k : ℕ) (ts : List Tag) → wanted_of (Kind k) ts ≡ of_kind k ts
+kind_wanted : (k : ℕ) (ts : List Tag) → wanted_of (Some k) ts ≡ of_kind k ts
 kind_wanted k [] = refl
 kind_wanted k (t ∷ ts) = rw (kind_wanted k ts)
 
 -- a walk with its wanted tags only
-abbrev chosen : Wanted → Walk → Walk
+abbrev chosen : Option ℕ → Walk → Walk
 chosen v w = record { tags = wanted_of v w.tags; number = w.number }
 
-module _ (h : List ℕ) (v : Wanted) (long : 256 ≤ length h) where
+module _ (h : List ℕ) (v : Option ℕ) (long : 256 ≤ length h) where
   -- places from which a lookup answers the same have the same list
   same_list : (k p q : ℕ) → lookup_from h p v ≡ lookup_from h q v → listing k h p v ≡ listing k h q v
   unfolding listing
@@ -72,7 +70,7 @@ module _ (h : List ℕ) (v : Wanted) (long : 256 ≤ length h) where
 
       go :
           (b : Bool) →
-          lookup_from h p v ≡ cond b (Found t) (first v (walk h 256 t.next)) →
+          lookup_from h p v ≡ cond b (Ok t) (first v (walk h 256 t.next)) →
           listing (suc k) h p v ≡
           record {
             tags = cond b (t ∷ wanted_of v (walk h 256 t.next).tags) (wanted_of v (walk h 256 t.next).tags);
@@ -88,9 +86,9 @@ module _ (h : List ℕ) (v : Wanted) (long : 256 ≤ length h) where
 
 -- a list is its first tag, and the list from where that leads
 pub list_step :
-    (h : List ℕ) (p : ℕ) (v : Wanted) (t : Tag) →
+    (h : List ℕ) (p : ℕ) (v : Option ℕ) (t : Tag) →
     8 ≤ p →
-    lookup_from h p v ≡ Found t →
+    lookup_from h p v ≡ Ok t →
     listing 63 h p v ≡ meets t (listing 63 h t.next v)
 unfolding listing
 list_step h p v t l e =
@@ -101,8 +99,8 @@ list_step h p v t l e =
     (rest 62 t.next (omega arith) (omega arith) (omega arith) ∙ sym (rest 63 t.next (omega arith) (omega arith) (omega arith))))
 
 -- a list of any type is the walk from its start
-any_listed : (h : List ℕ) (p : ℕ) → 256 ≤ length h → 8 ≤ p → p ≤ 256 → listing 63 h p Any ≡ walk h 256 p
-any_listed h p long a b = listed h Any long 63 p a b (omega arith) ∙ rw (any_wanted (walk h 256 p).tags)
+any_listed : (h : List ℕ) (p : ℕ) → 256 ≤ length h → 8 ≤ p → p ≤ 256 → listing 63 h p None ≡ walk h 256 p
+any_listed h p long a b = listed h None long 63 p a b (omega arith) ∙ rw (any_wanted (walk h 256 p).tags)
 
 pub tags-listed : TagsListed
 unfolding lookup
@@ -116,6 +114,6 @@ tags-listed =
       leads = λ h p v t e. let g = (found_from h p v e).good in (g.starts, (g.leads, omega arith));
       all = λ h long. any_listed h 8 long (omega arith) (omega arith);
       from_any = any_listed;
-      of_kind_lem = λ h p k long a b. listed h (Kind k) long 63 p a b (omega arith) ∙ rw (kind_wanted k (walk h 256 p).tags);
+      of_kind_lem = λ h p k long a b. listed h (Some k) long 63 p a b (omega arith) ∙ rw (kind_wanted k (walk h 256 p).tags);
       most = λ h. omega (arith, few h 256 8);
     }

@@ -7,13 +7,20 @@ use mathlib.Core.Path.{◌≡◌, refl, ap}
 use native.Mathlib.Omega.{arith}
 use lib.Dec.{ltb, eqb, eqb-suc-zero}
 use lib.ListN.{length, get_or}
-use borrow.Author.Tests.{ltb-false, eqb-true, eqb-false}
+use borrow.Author.Tests.{ltb-false, eqb-true, eqb-false, ne_eqb}
+use Rattle.refusal.specs.Numbers.{number}
+use Rattle.refusal.specs.declared.Refusal.{Refusal}
+use Rattle.refusal.proofs.Told.{numbers_tell}
 use Rattle.header.specs.Checks.{first_refusal, length_check, mark_check, size_of, size_check, walk_check, mandatory_check, Mandatory, mandatory, tags_check, coverage_check, header_check}
 use Rattle.header.specs.Lookup.{of_kind}
 use Rattle.header.specs.Types.{version_type, timestamp_type, digest_type, signature_type, firmware_type_type}
 use Rattle.header.specs.Walk.{header_walk}
 use Rattle.header.specs.declared.tags.Tag.{Tag}
 use Rattle.compare.proofs.Tests.{by_test}
+
+-- a refusal's number is not 0
+pub refused : (r : Refusal) → eqb (number r) 0 ≡ false
+refused r = ne_eqb (number r) 0 (numbers_tell.never_zero r)
 
 pub first_one : (n : ℕ) → first_refusal (n ∷ []) ≡ n
 first_one zero = refl

@@ -7,12 +7,10 @@ use mathlib.Core.Logic.{◌⊎◌}
 use mathlib.Core.Path.{◌≡◌, refl, sym, ap, ◌∙◌}
 use lib.Dec.{eqb}
 use borrow.Author.Tests.{eqb-true}
+use Rattle.std.specs.Prelude.{Some, Result, Ok, Err}
 use Rattle.header.specs.Lookup.{first_in, lookup, of_kind, LookupsAgree}
 use Rattle.header.specs.Walk.{Walk, walk, WalksStay}
-use Rattle.header.specs.declared.tags.Lookup.TheVariants.{Found, Refused}
-use Rattle.header.specs.declared.tags.Lookup.{Lookup}
 use Rattle.header.specs.declared.tags.Tag.{Tag}
-use Rattle.header.specs.declared.tags.Wanted.TheVariants.{Kind}
 use Rattle.header.proofs.Lookups.{not_found, long_enough, looked_up}
 use Rattle.header.proofs.Numbers.{low_byte}
 use Rattle.header.proofs.Order.{each_good}
@@ -34,21 +32,21 @@ stays s e p =
     }
 
 -- what a lookup finds is the head of the tags of its type
-abbrev pub head_of : List Tag → ℕ → Lookup
-head_of [] n = Refused n
-head_of (t ∷ ts) n = Found t
+abbrev pub head_of : List Tag → ℕ → Result Tag ℕ
+head_of [] n = Err n
+head_of (t ∷ ts) n = Ok t
 
-pub head_of_lem : (k : ℕ) (ts : List Tag) (n : ℕ) → first_in (Kind k) ts n ≡ head_of (of_kind k ts) n
+pub head_of_lem : (k : ℕ) (ts : List Tag) (n : ℕ) → first_in (Some k) ts n ≡ head_of (of_kind k ts) n
 head_of_lem k [] n = refl
 head_of_lem k (t ∷ ts) n =
-    by_test (λ (r : List Tag). cond (eqb t.kind k) (Found t) (first_in (Kind k) ts n) ≡ head_of r n) (eqb t.kind k)
+    by_test (λ (r : List Tag). cond (eqb t.kind k) (Ok t) (first_in (Some k) ts n) ≡ head_of r n) (eqb t.kind k)
     (λ b. rw b) (λ b. rw b (head_of_lem k ts n))
 
 -- a tag that is found has the type
-typed : (k : ℕ) (ts : List Tag) (n : ℕ) {t : Tag} → first_in (Kind k) ts n ≡ Found t → t.kind ≡ k
+typed : (k : ℕ) (ts : List Tag) (n : ℕ) {t : Tag} → first_in (Some k) ts n ≡ Ok t → t.kind ≡ k
 typed k [] n {t} = λ h. not_found h
 typed k (u ∷ ts) n {t} =
-    by_test (λ (r : Lookup). r ≡ Found t → t.kind ≡ k) (eqb u.kind k)
+    by_test (λ (r : Result Tag ℕ). r ≡ Ok t → t.kind ≡ k) (eqb u.kind k)
     (λ b h. let same : u ≡ t = cc in sym (ap (λ (t : Tag). t.kind) same) ∙ eqb-true _ _ b)
     (λ b h. typed k ts n h)
 
@@ -63,5 +61,5 @@ agrees h k =
           g.unpadded (sym (low_byte h (t.at - 4) (bytes _)) ∙ ap (λ (t : Tag). t.kind % 256) (sym g.is) ∙ ap (λ (n : ℕ). n % 256) (of_type t e) ∙ f);
     }
   where
-    of_type : (t : Tag) → lookup h k ≡ Found t → t.kind ≡ k
+    of_type : (t : Tag) → lookup h k ≡ Ok t → t.kind ≡ k
     of_type t e = typed k (walk h 256 8).tags (walk h 256 8).number (sym (long_enough h k (looked_up h k e).long) ∙ e)

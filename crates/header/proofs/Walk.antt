@@ -8,10 +8,11 @@ use mathlib.Core.Path.{◌≡◌, refl, sym, ap, subst}
 use native.Mathlib.Omega.{arith}
 use lib.Dec.{ltb, leb, eqb}
 use borrow.Author.Tests.{ltb-false, leb-false, eqb-false, le-leb, lt-leb, le-ltb, ne_eqb}
+use Rattle.std.specs.Prelude.{Result, Ok, Err}
 use Rattle.header.specs.Numbers.{byte_at, number_at}
 use Rattle.header.specs.Walk.{tag_at, step_at, Walk, on_step, walk_in, walk}
 use Rattle.header.specs.declared.tags.Tag.{Tag}
-use Rattle.header.specs.declared.tags.WalkStep.TheVariants.{Stop, Padding, Met}
+use Rattle.header.specs.declared.tags.WalkStep.TheVariants.{Padding, Met}
 use Rattle.header.specs.declared.tags.WalkStep.{WalkStep}
 use Rattle.compare.proofs.Tests.{by_test}
 
@@ -31,10 +32,10 @@ pub record Good (s : List ℕ) (e p : ℕ) (t : Tag) : Type 0 where
   pub leads : t.next ≡ t.at + t.len
   pub inside : t.at + t.len ≤ e
 
-abbrev pub GoodStep : List ℕ → ℕ → ℕ → WalkStep → Type 0
-GoodStep s e p (Stop n) = (n ≡ 13) ⊎ (n ≡ 25)
-GoodStep s e p (Padding q) = (p < q) × (q ≤ e)
-GoodStep s e p (Met t) = Good s e p t
+abbrev pub GoodStep : List ℕ → ℕ → ℕ → Result WalkStep ℕ → Type 0
+GoodStep s e p (Err n) = (n ≡ 13) ⊎ (n ≡ 25)
+GoodStep s e p (Ok (Padding q)) = (p < q) × (q ≤ e)
+GoodStep s e p (Ok (Met t)) = Good s e p t
 
 pub step_good : (s : List ℕ) (e p : ℕ) → GoodStep s e p (step_at s e p)
 unfolding step_at
@@ -56,13 +57,13 @@ step_good s e p =
     })))))
 
 on_same :
-    (f g : ℕ → Walk) (s : List ℕ) (e p : ℕ) (w : WalkStep) →
+    (f g : ℕ → Walk) (s : List ℕ) (e p : ℕ) (w : Result WalkStep ℕ) →
     GoodStep s e p w →
     ((q : ℕ) → p < q → q ≤ e → f q ≡ g q) →
     on_step f w ≡ on_step g w
-on_same f g s e p (Stop n) q h = refl
-on_same f g s e p (Padding n) q h = h n q.0 q.1
-on_same f g s e p (Met t) q h = ap (meets t) (h t.next (omega arith) (omega arith))
+on_same f g s e p (Err n) q h = refl
+on_same f g s e p (Ok (Padding n)) q h = h n q.0 q.1
+on_same f g s e p (Ok (Met t)) q h = ap (meets t) (h t.next (omega arith) (omega arith))
 
 -- with enough steps, one more changes nothing
 enough : (k : ℕ) (s : List ℕ) (e p : ℕ) → e ≤ p + k → walk_in (suc k) s e p ≡ walk_in (suc (suc k)) s e p
@@ -79,11 +80,11 @@ unfolding walk walk_in
 walk_step s e p = enough e s e p (omega arith)
 
 -- where a step ends the walk, passes padding, or meets a tag
-pub step_end : (s : List ℕ) (e p : ℕ) → e ≤ p → step_at s e p ≡ Stop 25
+pub step_end : (s : List ℕ) (e p : ℕ) → e ≤ p → step_at s e p ≡ Err 25
 unfolding step_at
 step_end s e p l = rw (le-leb e p l)
 
-pub step-padding : (s : List ℕ) (e p : ℕ) → p < e → byte_at s p ≡ 0xFF → step_at s e p ≡ Padding (p + 1)
+pub step-padding : (s : List ℕ) (e p : ℕ) → p < e → byte_at s p ≡ 0xFF → step_at s e p ≡ Ok (Padding (p + 1))
 unfolding step_at
 step-padding s e p l f = rw (lt-leb e p l, f)
 
@@ -92,7 +93,7 @@ pub step_met :
     p + 4 + number_at 2 s (p + 2) ≤ e →
     (byte_at s p ≡ 0xFF → ⊥) →
     (number_at 2 s p ≡ 0 → ⊥) →
-    step_at s e p ≡ Met (tag_at s p)
+    step_at s e p ≡ Ok (Met (tag_at s p))
 unfolding step_at
 step_met s e p fits unpadded typed =
     simp (
@@ -104,7 +105,7 @@ step_met s e p fits unpadded typed =
     )
 
 -- the tag that a step meets is the one at its place
-pub step-tag : (s : List ℕ) (e p : ℕ) {t : Tag} → step_at s e p ≡ Met t → t ≡ tag_at s p
+pub step-tag : (s : List ℕ) (e p : ℕ) {t : Tag} → step_at s e p ≡ Ok (Met t) → t ≡ tag_at s p
 unfolding step_at
 step-tag s e p {t} =
     by_test Is (leb e p) (λ b. stop)
@@ -113,17 +114,17 @@ step-tag s e p {t} =
     (λ b. by_test Is (eqb (number_at 2 s p) 0) (λ b. stop)
     (λ b. by_test Is (ltb e (p + 4 + number_at 2 s (p + 2))) (λ b. stop) (λ b h. let same : tag_at s p ≡ t = cc in sym same)))))
   where
-    Is : WalkStep → Type 0
-    Is w = w ≡ Met t → t ≡ tag_at s p
+    Is : Result WalkStep ℕ → Type 0
+    Is w = w ≡ Ok (Met t) → t ≡ tag_at s p
 
-    stop : {n : ℕ} → Is (Stop n)
+    stop : {n : ℕ} → Is (Err n)
     stop h = absurd (let z : ◌≡◌ {A = ℕ} 0 1 = cc in omega arith)
 
-    padding : {q : ℕ} → Is (Padding q)
+    padding : {q : ℕ} → Is (Ok (Padding q))
     padding h = absurd (let z : ◌≡◌ {A = ℕ} 0 1 = cc in omega arith)
 
 -- what is known where a step leads on
-pub on : (s : List ℕ) (e p : ℕ) {w : WalkStep} → step_at s e p ≡ w → GoodStep s e p w
+pub on : (s : List ℕ) (e p : ℕ) {w : Result WalkStep ℕ} → step_at s e p ≡ w → GoodStep s e p w
 on s e p q = subst (GoodStep s e p) q (step_good s e p)
 
 -- What holds at a place where it holds at all later ones up to e, holds at every place: a walk's steps lead on.
@@ -140,13 +141,13 @@ module _ (s : List ℕ) (e : ℕ) (P : ℕ → Walk → Type 0)
     (at_padding : (p q : ℕ) → p < q → q ≤ e → P q (walk s e q) → P p (walk s e q))
     (at_tag : (p : ℕ) (t : Tag) → Good s e p t → P t.next (walk s e t.next) → P p (meets t (walk s e t.next))) where
   by_step :
-      (p : ℕ) (w : WalkStep) →
+      (p : ℕ) (w : Result WalkStep ℕ) →
       GoodStep s e p w →
       ((q : ℕ) → p < q → q ≤ e → P q (walk s e q)) →
       P p (on_step (walk s e) w)
-  by_step p (Stop n) g ih = at_stop p n g
-  by_step p (Padding q) g ih = at_padding p q g.0 g.1 (ih q g.0 g.1)
-  by_step p (Met t) g ih = at_tag p t g (ih t.next (omega arith) (omega arith))
+  by_step p (Err n) g ih = at_stop p n g
+  by_step p (Ok (Padding q)) g ih = at_padding p q g.0 g.1 (ih q g.0 g.1)
+  by_step p (Ok (Met t)) g ih = at_tag p t g (ih t.next (omega arith) (omega arith))
 
   pub walk_ind : (p : ℕ) → P p (walk s e p)
   walk_ind =

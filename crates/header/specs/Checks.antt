@@ -1,10 +1,9 @@
 -- Document 01, "Header" and "Numbers given back", with document 02, R-2: the checks of a header, 10 to 16 and 30, in the papers' order.
-use Rattle.std.specs.Prelude.{ℕ, ◌+◌, Bool, cond, ◌&&◌, List, [], ◌∷◌, map, ltb, eqb, length}
+use Rattle.std.specs.Prelude.{ℕ, ◌+◌, Bool, cond, ◌&&◌, List, [], ◌∷◌, Result, Ok, Err, map, ltb, eqb, length}
 use Rattle.header.specs.Lookup.{view_of, of_kind}
 use Rattle.header.specs.Numbers.{byte_at, number_at}
 use Rattle.header.specs.Types.{mark, version_type, timestamp_type, digest_type, signature_type, firmware_type_type}
 use Rattle.header.specs.Walk.{header_walk}
-use Rattle.header.specs.declared.checks.Version.{Version}
 use Rattle.header.specs.declared.tags.Tag.{Tag}
 
 -- the first number that is not 0, and 0 where there is none
@@ -92,7 +91,10 @@ header_check i =
     ∷ coverage_check (header_walk i).tags
     ∷ [])
 
--- the version of an image whose header passes; a refusal gives its number and nothing else
-unfoldable pub version_of : List ℕ → Version
-version_of i =
-    record { number = header_check i; version = cond (eqb (header_check i) 0) (number_at 4 (view_of i version_type) 0) 0 }
+-- the version of an image whose header passes, or the number of the check that fails
+unfoldable pub version_of : List ℕ → Result ℕ ℕ
+version_of i = cond (eqb (header_check i) 0) (Ok (number_at 4 (view_of i version_type) 0)) (Err (header_check i))
+
+-- the version alone, 0 where the header fails
+abbrev pub version_in : List ℕ → ℕ
+version_in i = cond (eqb (header_check i) 0) (number_at 4 (view_of i version_type) 0) 0

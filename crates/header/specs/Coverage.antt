@@ -1,16 +1,15 @@
 -- Document 02, R-2: what an image whose header passes has under its digest.
-use Rattle.std.specs.Prelude.{ℕ, ◌+◌, ◌≤◌, List, [], ◌∷◌, ◌≡◌, length, take, drop}
+use Rattle.std.specs.Prelude.{ℕ, ◌+◌, ◌≤◌, List, [], ◌∷◌, Ok, ◌≡◌, length, take, drop}
 use Rattle.header.specs.Checks.{first_refusal, length_check, mark_check, size_check, walk_check, tags_check, header_check}
 use Rattle.header.specs.Lookup.{lookup, view_of, covered_of}
 use Rattle.header.specs.Types.{version_type, timestamp_type, firmware_type_type}
 use Rattle.header.specs.Walk.{header_walk}
-use Rattle.header.specs.declared.tags.Lookup.TheVariants.{Found}
 use Rattle.header.specs.declared.tags.Tag.{Tag}
 
 -- the tag that a lookup of type k finds lies in what the digest covers, whole, and its content is what is read there
 pub record Covered (i : List ℕ) (k : ℕ) : Type 0 where
   pub tag : Tag
-  pub found : lookup i k ≡ Found tag
+  pub found : lookup i k ≡ Ok tag
   pub inside : tag.at + tag.len ≤ length (covered_of i)
   pub shown : view_of i k ≡ take tag.len (drop tag.at (covered_of i))
 

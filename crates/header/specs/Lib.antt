@@ -6,4 +6,5 @@ pub mod Lookup
 pub mod Listing
 pub mod Checks
 pub mod Coverage
+pub mod Items
 pub mod Seen

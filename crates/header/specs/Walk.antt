@@ -1,9 +1,9 @@
 -- Document 01, "Header": the walk over the tags, as the list of the tags that it meets and how it ended.
-use Rattle.std.specs.Prelude.{ℕ, zero, suc, ◌+◌, ◌-◌, ◌≤◌, cond, ◌⊎◌, ◌≡◌, ltb, leb, eqb}
+use Rattle.std.specs.Prelude.{ℕ, zero, suc, ◌+◌, ◌-◌, ◌≤◌, cond, ◌⊎◌, ◌≡◌, Result, Ok, Err, ltb, leb, eqb}
 use mathlib.Core.List.{List, [], ◌∷◌, Memᴰ}
 use Rattle.header.specs.Numbers.{byte_at, number_at}
 use Rattle.header.specs.declared.tags.Tag.{Tag}
-use Rattle.header.specs.declared.tags.WalkStep.TheVariants.{Stop, Padding, Met}
+use Rattle.header.specs.declared.tags.WalkStep.TheVariants.{Padding, Met}
 use Rattle.header.specs.declared.tags.WalkStep.{WalkStep}
 
 -- the tag at place p: type, then length, then content; the walk goes on behind that
@@ -17,24 +17,24 @@ tag_at s p =
     }
 
 -- One step at place p, where the tags end at place e, in a header 256. It stops with 25 at the walk's end, with 13 where a tag passes e.
-unfoldable pub step_at : List ℕ → ℕ → ℕ → WalkStep
+unfoldable pub step_at : List ℕ → ℕ → ℕ → Result WalkStep ℕ
 step_at s e p =
-    cond (leb e p) (Stop 25)
-    (cond (eqb (byte_at s p) 0xFF) (Padding (p + 1))
-    (cond (ltb e (p + 4)) (Stop 13)
-    (cond (eqb (number_at 2 s p) 0) (Stop 25)
-    (cond (ltb e (p + 4 + number_at 2 s (p + 2))) (Stop 13)
-    (Met (tag_at s p))))))
+    cond (leb e p) (Err 25)
+    (cond (eqb (byte_at s p) 0xFF) (Ok (Padding (p + 1)))
+    (cond (ltb e (p + 4)) (Err 13)
+    (cond (eqb (number_at 2 s p) 0) (Err 25)
+    (cond (ltb e (p + 4 + number_at 2 s (p + 2))) (Err 13)
+    (Ok (Met (tag_at s p)))))))
 
 pub record Walk : Type 0 where
   pub tags : List Tag
   pub number : ℕ
 
 -- the walk that goes on from a step; rest is the walk from a later place
-abbrev pub on_step : (ℕ → Walk) → WalkStep → Walk
-on_step rest (Stop n) = record { tags = []; number = n }
-on_step rest (Padding p) = rest p
-on_step rest (Met t) = record { tags = t ∷ (rest t.next).tags; number = (rest t.next).number }
+abbrev pub on_step : (ℕ → Walk) → Result WalkStep ℕ → Walk
+on_step rest (Err n) = record { tags = []; number = n }
+on_step rest (Ok (Padding p)) = rest p
+on_step rest (Ok (Met t)) = record { tags = t ∷ (rest t.next).tags; number = (rest t.next).number }
 
 -- the walk from place p, if it has no more than k steps
 unfoldable pub walk_in : ℕ → List ℕ → ℕ → ℕ → Walk

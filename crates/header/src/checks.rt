@@ -1,162 +1,153 @@
-// The checks of an image's header, 10 to 16 and 30, and the version of an image that passes them.
-ghost use Rattle.std.specs.Prelude.{◌∷◌, [], ◌≡◌};
+// The checks of an image's header, and the version of an image that passes them.
+ghost use Rattle.std.specs.Prelude.{◌∷◌, [], ◌≡◌, Err};
+ghost use Rattle.refusal.specs.Numbers.{numbered, number_or_zero};
+ghost use Rattle.refusal.specs.declared.Refusal.TheVariants as R;
 ghost use Rattle.header.specs.Walk.{header_walk};
 ghost use Rattle.header.specs.Checks.{first_refusal, marked, walk_check, tags_check, coverage_check, header_check, version_of};
-ghost use Rattle.header.specs.Seen.{number_after, uncovered_after, seen_after, first_seen};
+ghost use Rattle.header.specs.Seen.{must_be_covered, required_after, nothing_seen, seen_after, first_seen};
 
-use crate::number::{byte_at, u32_at};
-use crate::tags::{Tag, WalkStep, walk_step};
+use crate::number::number_at;
+use crate::tags::{Tag, Tags};
 use crate::{DIGEST, FIRMWARE_TYPE, FIRST, LENGTH, SIGNATURE, TIMESTAMP, VERSION, view};
+use refusal::Refusal;
 
-// The version with the number 0; or the number of the check that the header fails, and 0.
-#[derive(Clone, Copy)]
-pub struct Version {
-    pub number: u32,
-    pub version: u32,
+// A type whose tag has to stand exactly once, its length, and what its tags so far come to.
+#[derive(Clone, Copy, Debug, PartialEq, Eq)]
+struct Required {
+    kind: u16,
+    len: usize,
+    state: Result<(), Refusal>,
+}
+
+impl Required {
+    fn new(kind: u16, len: usize) -> Required
+        ensures { result ≡ record { kind = kind; len = len; state = Err R.TagMissing } }
+    {
+        Required {
+            kind,
+            len,
+            state: Err(Refusal::TagMissing),
+        }
+    }
+
+    fn after(self, t: Tag) -> Required
+        ensures { result ≡ required_after self t }
+    {
+        if t.kind != self.kind {
+            return self;
+        }
+        let state = if self.state != Err(Refusal::TagMissing) {
+            Err(Refusal::TagRepeated)
+        } else if t.len == self.len {
+            Ok(())
+        } else {
+            Err(Refusal::TagLength)
+        };
+        Required { state, ..self }
+    }
+}
+
+fn must_be_covered(kind: u16) -> bool
+    ensures { result ≡ must_be_covered kind }
+{
+    (kind == VERSION) | (kind == TIMESTAMP) | (kind == FIRMWARE_TYPE)
+}
+
+// What the walk has met so far: the mandatory types, in document 01's order; a digest tag; and behind one a tag that
+// the digest has to cover.
+#[derive(Clone, Copy, Debug, PartialEq, Eq)]
+struct Seen {
+    required: [Required; 5],
+    digest_met: bool,
+    uncovered: bool,
+}
+
+impl Seen {
+    fn new() -> Seen
+        ensures { result ≡ nothing_seen }
+    {
+        Seen {
+            required: [
+                Required::new(VERSION, 4),
+                Required::new(TIMESTAMP, 8),
+                Required::new(DIGEST, 32),
+                Required::new(SIGNATURE, 64),
+                Required::new(FIRMWARE_TYPE, 2),
+            ],
+            digest_met: false,
+            uncovered: false,
+        }
+    }
+
+    fn meet(&mut self, t: Tag)
+        ensures { self.new ≡ seen_after self.old t }
+    {
+        for r in &mut self.required {
+            *r = r.after(t);
+        }
+        self.uncovered |= self.digest_met & must_be_covered(t.kind);
+        self.digest_met |= t.kind == DIGEST;
+    }
+
+    // The first refusal that the tags come to.
+    fn check(self) -> Result<(), Refusal>
+        ensures { number_or_zero result ≡ first_seen self }
+    {
+        // All are read before the first is answered: a `?` in the loop took 3 per cent of a header's checks longer.
+        let mut first = Ok(());
+        for r in self.required {
+            first = first.and(r.state);
+        }
+        first?;
+        if self.uncovered {
+            Err(Refusal::Uncovered)
+        } else {
+            Ok(())
+        }
+    }
 }
 
 fn is_marked(image: &[u8]) -> bool
     ensures { result ≡ marked image.now }
 {
-    (byte_at(image, 0) == 0x57)
-        & (byte_at(image, 1) == 0x4F)
-        & (byte_at(image, 2) == 0x4C)
-        & (byte_at(image, 3) == 0x46)
+    image.starts_with(b"WOLF")
 }
 
-// What the walk has met so far of each mandatory type: 14, 15, 16, or 0; and whether it has met a tag
-// behind a digest tag that the digest has to cover.
-#[derive(Clone, Copy)]
-struct Seen {
-    version: u32,
-    timestamp: u32,
-    digest: u32,
-    signature: u32,
-    firmware_type: u32,
-    uncovered: bool,
-}
-
-// A type's number after one more tag.
-fn after(number: u32, t: Tag, kind: u16, len: usize) -> u32
-    ensures { result ≡ number_after (record { kind = kind; len = len }) number t }
+// The mandatory types and what the digest covers, in one walk over the tags.
+fn check_tags(header: &[u8]) -> Result<(), Refusal>
+    ensures { number_or_zero result ≡ first_refusal (walk_check (header_walk header.now).number
+        ∷ tags_check (header_walk header.now).tags ∷ coverage_check (header_walk header.now).tags ∷ []) }
 {
-    if t.kind == kind {
-        if number == 14 {
-            if t.len == len { 0 } else { 16 }
-        } else {
-            15
-        }
-    } else {
-        number
+    let mut seen = Seen::new();
+    for t in Tags::new(header, FIRST) {
+        seen.meet(t?);
     }
+    seen.check()
 }
 
-// Whether something is uncovered after one more tag. digest is the digest's number before it: 14 where
-// the tag stands before the first digest tag.
-fn uncovered_after(uncovered: bool, t: Tag, digest: u32) -> bool
-    ensures { result ≡ uncovered_after digest uncovered t }
-{
-    uncovered
-        | ((digest != 14)
-            & ((t.kind == VERSION) | (t.kind == TIMESTAMP) | (t.kind == FIRMWARE_TYPE)))
-}
-
-fn seen_after(s: Seen, t: Tag) -> Seen
-    ensures { result ≡ seen_after s t }
-{
-    Seen {
-        version: after(s.version, t, VERSION, 4),
-        timestamp: after(s.timestamp, t, TIMESTAMP, 8),
-        digest: after(s.digest, t, DIGEST, 32),
-        signature: after(s.signature, t, SIGNATURE, 64),
-        firmware_type: after(s.firmware_type, t, FIRMWARE_TYPE, 2),
-        uncovered: uncovered_after(s.uncovered, t, s.digest),
-    }
-}
-
-// The mandatory types, in document 01's order; then what the digest has to cover.
-fn first_seen(s: Seen) -> u32
-    ensures { result ≡ first_seen s }
-{
-    if s.version != 0 {
-        return s.version;
-    }
-    if s.timestamp != 0 {
-        return s.timestamp;
-    }
-    if s.digest != 0 {
-        return s.digest;
-    }
-    if s.signature != 0 {
-        return s.signature;
-    }
-    if s.firmware_type != 0 {
-        return s.firmware_type;
-    }
-    if s.uncovered { 30 } else { 0 }
-}
-
-// 13 to 16, 30, or 0, in one walk over the tags.
-fn check_tags(header: &[u8]) -> u32
-    ensures { result ≡ first_refusal (walk_check (header_walk header.now).number ∷ tags_check (header_walk header.now).tags
-        ∷ coverage_check (header_walk header.now).tags ∷ []) }
-{
-    let mut seen = Seen {
-        version: 14,
-        timestamp: 14,
-        digest: 14,
-        signature: 14,
-        firmware_type: 14,
-        uncovered: false,
-    };
-    let mut p = FIRST;
-    loop {
-        match walk_step(header, LENGTH, p) {
-            WalkStep::Stop(number) => {
-                if number == 13 {
-                    return 13;
-                }
-                return first_seen(seen);
-            }
-            WalkStep::Padding(next) => p = next,
-            WalkStep::Met(t) => {
-                seen = seen_after(seen, t);
-                p = t.next;
-            }
-        }
-    }
-}
-
-// The number of the first of the checks 10 to 16 and 30 that an image's header fails, or 0.
-pub fn check(image: &[u8]) -> u32
-    ensures { result ≡ header_check image.now }
+// The first of the checks that an image's header fails.
+#[tactic(auto, unfolding(crate::specs::Checks::header_check))]
+pub fn check(image: &[u8]) -> Result<(), Refusal>
+    ensures { number_or_zero result ≡ header_check image.now }
 {
     if image.len() < LENGTH {
-        return 10;
+        return Err(Refusal::Length);
     }
-    if is_marked(image) {
-        let size = u32_at(image, 4) as usize;
-        if size == 0 {
-            return 12;
-        }
-        if image.len() - LENGTH < size {
-            return 12;
-        }
-        return check_tags(image);
+    if !is_marked(image) {
+        return Err(Refusal::Mark);
     }
-    11
+    let size = number_at::<u32>(image, 4) as usize;
+    if size == 0 || image.len() - LENGTH < size {
+        return Err(Refusal::Size);
+    }
+    check_tags(image)
 }
 
 // The version of an image whose header passes its checks.
-pub fn version_of(image: &[u8]) -> Version
-    ensures { result ≡ version_of image.now }
+#[tactic(auto, using(crate::proofs::Refusals::refused), unfolding(crate::specs::Checks::version_of))]
+pub fn version_of(image: &[u8]) -> Result<u32, Refusal>
+    ensures { numbered result ≡ version_of image.now }
 {
-    let number = check(image);
-    if number != 0 {
-        return Version { number, version: 0 };
-    }
-    Version {
-        number: 0,
-        version: u32_at(view(image, VERSION), 0),
-    }
+    check(image)?;
+    Ok(number_at(view(image, VERSION), 0))
 }

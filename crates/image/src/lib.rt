@@ -5,33 +5,35 @@
 ghost use Rattle.std.specs.Prelude.{◌≡◌};
 ghost use Rattle.header.specs.Checks.{header_check};
 ghost use Rattle.image.specs.Verdict.{digest_check, verdict};
+ghost use Rattle.refusal.specs.Numbers.{number_or_zero};
 
-// 17, or 0 where an image whose header passes has the digest that its digest tag says.
-fn check_digest(image: &[u8]) -> u32
+use refusal::Refusal;
+
+// 17 where an image whose header passes has another digest than its digest tag says. So short a message always has
+// a digest: the unwrap is proved, and tests nothing.
+fn check_digest(image: &[u8]) -> Result<(), Refusal>
     requires { header_check image.now ≡ 0 }
-    ensures { result ≡ digest_check image.now }
+    ensures { number_or_zero result ≡ digest_check image.now }
 {
-    let end = header::LENGTH + header::u32_at(image, 4) as usize;
-    let digest = sha256::long_digest_of_two(header::covered(image), &image[256..end]).bytes;
+    let end = header::LENGTH + header::number_at::<u32>(image, 4) as usize;
+    let digest = sha256::long_digest_of_two(header::covered(image), &image[256..end]).unwrap();
     if compare::same(header::view(image, header::DIGEST), &digest) {
-        0
+        Ok(())
     } else {
-        17
+        Err(Refusal::Digest)
     }
 }
 
-// The number of the first of the checks 10 to 16, 30, 17, 18 that an image fails, or 0 where it passes.
-// signed is the signature checker's answer.
-pub fn verify(image: &[u8], signed: bool) -> u32
-    ensures { result ≡ verdict image.now signed }
+// The first of the checks 10 to 16, 30, 17, 18 that an image fails. signed is the signature checker's answer.
+#[tactic(auto, unfolding(crate::specs::Verdict::verdict))]
+pub fn verify(image: &[u8], signed: bool) -> Result<(), Refusal>
+    ensures { number_or_zero result ≡ verdict image.now signed }
 {
-    let number = header::check(image);
-    if number != 0 {
-        return number;
+    header::check(image)?;
+    check_digest(image)?;
+    if signed {
+        Ok(())
+    } else {
+        Err(Refusal::Signature)
     }
-    let differs = check_digest(image);
-    if differs != 0 {
-        return differs;
-    }
-    if signed { 0 } else { 18 }
 }

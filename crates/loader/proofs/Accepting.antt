@@ -3,7 +3,6 @@ use Prim.Native.Nat.{ℕ}
 use mathlib.Core.Bool.{Bool, true, cond}
 use mathlib.Core.List.{List}
 use mathlib.Core.Path.{◌≡◌, refl}
-use native.Mathlib.Omega.{arith}
 use borrow.Author.Tests.{eqb-true}
 use lib.Dec.{eqb}
 use lib.ListN.{length}
@@ -19,20 +18,17 @@ use Rattle.slots.specs.Exchange.{exchange_of}
 use Rattle.slots.specs.Flags.{flags, progress_of}
 use Rattle.slots.specs.Places.{image_of, trailer_of}
 use Rattle.slots.specs.Trailers.{sound_with, renewal_of}
-use Rattle.slots.specs.declared.answers.Progress.TheVariants as P
-use Rattle.slots.specs.declared.answers.Progress.{Progress}
-use Rattle.slots.specs.declared.answers.Work.TheVariants as W
-use Rattle.slots.specs.declared.answers.Work.{Work}
+use Rattle.std.specs.Prelude.{Option, Some, None, Result, Ok, Err}
 use Rattle.slots.specs.declared.places.Slot.TheVariants.{Boot, Update}
 use Rattle.slots.proofs.DueAccepted.{DueAccepted, state-accepted, renewal_accepted, exchange_accepted}
 use Rattle.loader.specs.StepsAccepted.{StepsAccepted}
 use Rattle.loader.specs.Checks.{Checks}
-use Rattle.loader.specs.Decisions.{or_else, boot_or, go_back, spend, finish, staged_decision, decision, next_step}
+use Rattle.loader.specs.Decisions.{or_else, boot_or, go_back, why, spend, finish, staged_decision, decision, next_step}
 use Rattle.loader.specs.Requests.{swap_begun, triggering, confirming, trigger_answer, confirm_answer}
 use Rattle.loader.specs.States.{updating, testing, success, staged, on_trial}
-use Rattle.loader.specs.declared.answers.Answer.TheVariants as A
-use Rattle.loader.proofs.ByProgress.{why, at_refusal, at_progress}
-use Rattle.loader.specs.declared.answers.Answer.{Answer}
+use Rattle.loader.specs.Answers as A
+use Rattle.loader.proofs.ByProgress.{at_refusal, at_progress}
+use Rattle.loader.specs.Answers.{Answer}
 
 -- the step of an answer is accepted
 abbrev pub AnswerAccepted : Geometry → Answer → Type 0
@@ -41,10 +37,14 @@ AnswerAccepted g (A.LastStep s) = accepted g s ≡ true
 AnswerAccepted g (A.Boot n) = Unit {0}
 AnswerAccepted g (A.Refused n) = Unit {0}
 
-or_else_lem : (g : Geometry) (w : Work) (a : Answer) → DueAccepted g w → AnswerAccepted g a → AnswerAccepted g (or_else w a)
-or_else_lem g (W.Due s) a h checks = h
-or_else_lem g W.Finished a h checks = checks
-or_else_lem g (W.Refused n) a h checks = tt
+or_else_lem : (g : Geometry) (w : Option Step) (a : Answer) → DueAccepted g w → AnswerAccepted g a → AnswerAccepted g (or_else w a)
+or_else_lem g (Some s) a h checks = h
+or_else_lem g None a h checks = checks
+
+-- the same of a request's answer
+abbrev pub RequestAccepted : Geometry → Result (Option Step) ℕ → Type 0
+RequestAccepted g (Ok w) = DueAccepted g w
+RequestAccepted g (Err n) = Unit {0}
 
 module _ (checks : Checks) (g : Geometry) (f : List ℕ) (ok : geometry_check g (length f) ≡ 0) (a b : Bool) where
   v : Valid g (length f)
@@ -68,9 +68,9 @@ module _ (checks : Checks) (g : Geometry) (f : List ℕ) (ok : geometry_check g 
       fs : List ℕ
       fs = flags g.count (trailer_of g f Update)
 
-      go : (r : Progress) → progress_of fs ≡ r → AnswerAccepted g (staged_decision checks g f t a b)
-      go (P.Refused n) e = rw (at_refusal checks g f ok t a b n e) tt
-      go (P.At p) e = rw (at_progress checks g f ok t a b p e)
+      go : (r : Result ℕ ℕ) → progress_of fs ≡ r → AnswerAccepted g (staged_decision checks g f t a b)
+      go (Err n) e = rw (at_refusal checks g f ok t a b n e) tt
+      go (Ok p) e = rw (at_progress checks g f ok t a b p e)
           (by_test (AnswerAccepted g) (eqb (why checks g f b p) 0)
           (λ _. or_else_lem g (exchange_of g f p) (finish checks g f t a) (exchange_accepted g f v p) (finishing t)) (λ _. boot_or_lem (why checks g f b p)))
 
@@ -86,16 +86,16 @@ module _ (checks : Checks) (g : Geometry) (f : List ℕ) (ok : geometry_check g 
       (λ _. by_test (AnswerAccepted g) (on_trial g f) (λ _. goes_back) (λ _. boot_or_lem 0))
 
 module _ (g : Geometry) (f : List ℕ) (v : Valid g (length f)) where
-  triggers : DueAccepted g (triggering g f)
+  triggers : RequestAccepted g (triggering g f)
   unfolding triggering
-  triggers = by_test (DueAccepted g) (swap_begun g f) (λ _. tt)
-      (λ _. by_test (DueAccepted g) (on_trial g f) (λ _. tt) (λ _. renewal_accepted g f v Update updating))
+  triggers = by_test (RequestAccepted g) (swap_begun g f) (λ _. tt)
+      (λ _. by_test (RequestAccepted g) (on_trial g f) (λ _. tt) (λ _. renewal_accepted g f v Update updating))
 
-  confirms : DueAccepted g (confirming g f)
+  confirms : RequestAccepted g (confirming g f)
   unfolding confirming
-  confirms = by_test (DueAccepted g) (swap_begun g f) (λ _. tt)
-      (λ _. by_test (DueAccepted g) (on_trial g f) (λ _. state-accepted g f v Boot success)
-      (λ _. by_test (DueAccepted g) (sound_with (trailer_of g f Boot) success) (λ _. tt) (λ _. tt)))
+  confirms = by_test (RequestAccepted g) (swap_begun g f) (λ _. tt)
+      (λ _. by_test (RequestAccepted g) (on_trial g f) (λ _. state-accepted g f v Boot success)
+      (λ _. by_test (RequestAccepted g) (sound_with (trailer_of g f Boot) success) (λ _. tt) (λ _. tt)))
 
 -- ---- on every input
 
@@ -115,28 +115,28 @@ module _ (g : Geometry) (f : List ℕ) where
   )
 
   refused : (n : ℕ) → Checked (A.Refused n)
-  refused n s = (λ q. absurd (let z : ◌≡◌ {A = ℕ} 0 1 = cc in omega arith), λ q. absurd (let z : ◌≡◌ {A = ℕ} 0 1 = cc in omega arith))
+  refused n s = (λ q. (cc), λ q. (cc))
 
   next : (checks : Checks) (a b : Bool) → Checked (next_step checks g f a b)
   unfolding next_step
   next checks a b = by_geometry Checked (λ e. checked (decision checks g f a b) e (decision-accepted checks g f e a b)) (refused _)
 
-  abbrev WorkChecked : Work → Type 0
-  WorkChecked w = (s : Step) → w ≡ W.Due s → step_check g (length f) s ≡ 0
+  abbrev RequestChecked : Result (Option Step) ℕ → Type 0
+  RequestChecked w = (s : Step) → w ≡ Ok (Some s) → step_check g (length f) s ≡ 0
 
-  work_checked : (w : Work) → geometry_check g (length f) ≡ 0 → DueAccepted g w → WorkChecked w
-  work_checked w e h s q = step-passes g (length f) s e (rw q at h)
+  request_checked : (w : Result (Option Step) ℕ) → geometry_check g (length f) ≡ 0 → RequestAccepted g w → RequestChecked w
+  request_checked w e h s q = step-passes g (length f) s e (rw q at h)
 
-  work_refused : (n : ℕ) → WorkChecked (W.Refused n)
-  work_refused n s q = absurd (let z : ◌≡◌ {A = ℕ} 0 1 = cc in omega arith)
+  request_refused : (n : ℕ) → RequestChecked (Err n)
+  request_refused n s q = cc
 
-  trigger : WorkChecked (trigger_answer g f)
+  trigger : RequestChecked (trigger_answer g f)
   unfolding trigger_answer
-  trigger = by_geometry WorkChecked (λ e. work_checked (triggering g f) e (triggers g f (valid g (length f) e))) (work_refused _)
+  trigger = by_geometry RequestChecked (λ e. request_checked (triggering g f) e (triggers g f (valid g (length f) e))) (request_refused _)
 
-  confirm : WorkChecked (confirm_answer g f)
+  confirm : RequestChecked (confirm_answer g f)
   unfolding confirm_answer
-  confirm = by_geometry WorkChecked (λ e. work_checked (confirming g f) e (confirms g f (valid g (length f) e))) (work_refused _)
+  confirm = by_geometry RequestChecked (λ e. request_checked (confirming g f) e (confirms g f (valid g (length f) e))) (request_refused _)
 
 pub steps-accepted : StepsAccepted
 steps-accepted g f s = record {

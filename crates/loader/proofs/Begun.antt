@@ -10,8 +10,7 @@ use Rattle.compare.specs.Compare.{all}
 use Rattle.flash.proofs.Areas.{valid}
 use Rattle.slots.specs.Flags.{new, updated, flags, progress_of}
 use Rattle.slots.specs.Places.{trailer_of}
-use Rattle.slots.specs.declared.answers.Progress.{Progress}
-use Rattle.slots.specs.declared.answers.Progress.TheVariants as P
+use Rattle.std.specs.Prelude.{Result, Ok, Err}
 use Rattle.slots.specs.declared.places.Slot.TheVariants.{Update}
 use Rattle.slots.proofs.Reached.{new_at, updated-refused, flags-says}
 use Rattle.loader.specs.MidSwap.{mid_swap, mid_swap_answer, BegunExactlyThen}
@@ -33,8 +32,8 @@ begun_exactly_then g f ok = rw ok (by_tests (staged g f) (all new fs) (all updat
     fs : List ℕ
     fs = flags g.count (trailer_of g f Update)
 
-    apart : (r : Progress) → progress_of fs ≡ r → all new fs ≡ true → all updated fs ≡ false
-    apart (P.Refused n) e h = updated-refused fs n e
-    apart (P.At p) e h =
+    apart : (r : Result ℕ ℕ) → progress_of fs ≡ r → all new fs ≡ true → all updated fs ≡ false
+    apart (Err n) e h = updated-refused fs n e
+    apart (Ok p) e h =
         let z : p ≡ 0 = eqb-true p 0 (sym (new_at fs p e) ∙ h) in
         (flags-says g.count (trailer_of g f Update) p e).all-updated ∙ ne_eqb p (3 * g.count) (omega (arith, z, (valid g (length f) ok).shape.count_min))

@@ -2,6 +2,7 @@
 use Prim.Native.Nat.{ℕ, ◌*◌, ◌≤◌, ◌<◌}
 use mathlib.Core.Bool.{Bool, true, false, cond, not}
 use mathlib.Core.List.{List}
+use Rattle.std.specs.Prelude.{Ok, Err}
 use mathlib.Core.Logic.{◌≢◌}
 use mathlib.Core.Path.{◌≡◌, refl, ◌∙◌}
 use native.Mathlib.Decide.{ℕ_discrete}
@@ -17,31 +18,26 @@ use Rattle.slots.specs.Correspondence.{Says}
 use Rattle.slots.specs.Exchange.{exchange_step, exchange_of}
 use Rattle.slots.specs.Flags.{new, updated, flags, well_formed, lowest_unfinished, progress_of}
 use Rattle.slots.specs.Places.{trailer_of}
-use Rattle.slots.specs.declared.answers.Progress.TheVariants as P
 use Rattle.slots.specs.declared.places.Slot.TheVariants.{Update}
 use Rattle.slots.proofs.Exchanging.{exchange_step_at, exchange_due, exchange_finished}
 use Rattle.slots.proofs.Reached.{flags_at, flags-says, ill_formed}
 use Rattle.loader.specs.Checks.{Checks}
-use Rattle.loader.specs.Decisions.{or_else, boot_or, passed_over, finish, staged_decision}
-use Rattle.loader.specs.declared.answers.Answer.{Answer}
-use Rattle.loader.specs.declared.answers.Answer.TheVariants as A
-
--- the number that UPDATE is passed over for, asked where the progress is 0
-abbrev pub why : Checks → Geometry → List ℕ → Bool → ℕ → ℕ
-why checks g f b p = cond (eqb p 0) (passed_over checks g f b) 0
+use Rattle.loader.specs.Decisions.{or_else, boot_or, passed_over, why, finish, staged_decision}
+use Rattle.loader.specs.Answers.{Answer}
+use Rattle.loader.specs.Answers as A
 
 module _ (checks : Checks) (g : Geometry) (f : List ℕ) (ok : geometry_check g (length f) ≡ 0) (t : ℕ) (a b : Bool) where
   abbrev fs : List ℕ
   fs = flags g.count (trailer_of g f Update)
 
-  pub at_refusal : (n : ℕ) → progress_of fs ≡ P.Refused n → staged_decision checks g f t a b ≡ A.Refused n
+  pub at_refusal : (n : ℕ) → progress_of fs ≡ Err n → staged_decision checks g f t a b ≡ A.Refused n
   unfolding staged_decision
   at_refusal n e = let h = ill_formed fs n e in rw (h.0, h.1)
 
   abbrev by : ℕ → Answer
   by p = cond (eqb (why checks g f b p) 0) (or_else (exchange_of g f p) (finish checks g f t a)) (boot_or checks g f a (why checks g f b p))
 
-  module _ (p : ℕ) (e : progress_of fs ≡ P.At p) where
+  module _ (p : ℕ) (e : progress_of fs ≡ Ok p) where
     says : Says g.count p fs
     says = flags-says g.count (trailer_of g f Update) p e
 

@@ -1,3 +1,4 @@
+pub mod Tested
 pub mod ByProgress
 pub mod Accepting
 pub mod Triggering

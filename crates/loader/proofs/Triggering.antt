@@ -17,12 +17,11 @@ use Rattle.flash.proofs.Shown.{changes, flash-after}
 use Rattle.slots.specs.Places.{trailer_of}
 use Rattle.slots.specs.Renewed.{steps_left, Renewing}
 use Rattle.slots.specs.Trailers.{sound_with, renewal_of}
-use Rattle.slots.specs.declared.answers.Work.TheVariants.{Due, Finished, Refused}
-use Rattle.slots.specs.declared.answers.Work.{Work}
+use Rattle.std.specs.Prelude.{Option, Some, None, Result, Ok, Err}
 use Rattle.slots.specs.declared.places.Place.TheVariants.{Sector}
 use Rattle.slots.specs.declared.places.Slot.TheVariants.{Boot, Update}
 use Rattle.slots.proofs.Apart.{length_at}
-use Rattle.slots.proofs.RenewalSteps.{renewal_ends, never_refused}
+use Rattle.slots.proofs.RenewalSteps.{renewal_ends}
 use Rattle.slots.proofs.Renewing.{left-max, left_idle}
 use Rattle.loader.specs.Requests.{swap_begun, triggering, trigger_answer}
 use Rattle.loader.specs.States.{updating, testing, on_trial}
@@ -38,11 +37,11 @@ abbrev left : Geometry → List ℕ → ℕ
 left g f = steps_left (trailer_of g f Update) g.count updating
 
 module _ (g : Geometry) (f : List ℕ) where
-  renews : Ready g f → trigger_answer g f ≡ renewal_of g f Update updating
+  renews : Ready g f → trigger_answer g f ≡ Ok (renewal_of g f Update updating)
   unfolding trigger_answer triggering
   renews r = rw (r.ok, r.not-begun, r.not_trial)
 
-  ready : ((n : ℕ) → trigger_answer g f ≢ Refused n) → Ready g f
+  ready : ((n : ℕ) → trigger_answer g f ≢ Err n) → Ready g f
   unfolding trigger_answer triggering
   ready h = go (eqb (geometry_check g (length f)) 0) refl (swap_begun g f) refl (on_trial g f) refl h
     where
@@ -50,13 +49,13 @@ module _ (g : Geometry) (f : List ℕ) where
       number = geometry_check g (length f)
 
       go : (a : Bool) → eqb number 0 ≡ a → (b : Bool) → swap_begun g f ≡ b → (c : Bool) → on_trial g f ≡ c
-          → ((n : ℕ) → cond a (cond b (Refused 22) (cond c (Refused 21) (renewal_of g f Update updating))) (Refused number) ≢ Refused n) → Ready g f
+          → ((n : ℕ) → cond {A = Result (Option Step) ℕ} a (cond b (Err 22) (cond c (Err 21) (Ok (renewal_of g f Update updating)))) (Err number) ≢ Err n) → Ready g f
       go false p b q c r k = absurd (k number refl)
       go true p true q c r k = absurd (k 22 refl)
       go true p false q true r k = absurd (k 21 refl)
       go true p false q false r k = record { ok = eqb-true _ _ p; not-begun = q; not_trial = r }
 
-  module _ (r : Ready g f) (d : Step) (e : renewal_of g f Update updating ≡ Due d) where
+  module _ (r : Ready g f) (d : Step) (e : renewal_of g f Update updating ≡ Some d) where
     step : Renewing g f Update updating d
     step = (renewal_ends g f Update updating r.ok (omega arith)).due d e
 
@@ -84,23 +83,22 @@ module _ (g : Geometry) (f : List ℕ) where
               ∙ r.not_trial;
         }
 
-stays : (m : ℕ) (g : Geometry) (f : List ℕ) → trigger_answer g f ≡ Finished → trigger_answer g (triggered m g f) ≡ Finished
+stays : (m : ℕ) (g : Geometry) (f : List ℕ) → trigger_answer g f ≡ Ok None → trigger_answer g (triggered m g f) ≡ Ok None
 unfolding triggered
 stays zero g f e = e
 stays (suc m) g f e = rw e (stays m g f e)
 
-ends : (m : ℕ) (g : Geometry) (f : List ℕ) → Ready g f → left g f ≤ m → trigger_answer g (triggered m g f) ≡ Finished
+ends : (m : ℕ) (g : Geometry) (f : List ℕ) → Ready g f → left g f ≤ m → trigger_answer g (triggered m g f) ≡ Ok None
 unfolding triggered
-ends zero g f r h = renews g f r ∙ (renewal_ends g f Update updating r.ok (omega arith)).finished (omega arith)
+ends zero g f r h = renews g f r ∙ ap Ok ((renewal_ends g f Update updating r.ok (omega arith)).finished (omega arith))
 ends (suc m) g f r h = go (renewal_of g f Update updating) refl (ends m g)
   where
-    go : (w : Work) → renewal_of g f Update updating ≡ w
-        → ((f' : List ℕ) → Ready g f' → left g f' ≤ m → trigger_answer g (triggered m g f') ≡ Finished)
-        → trigger_answer g (triggered (suc m) g f) ≡ Finished
-    go (Due d) e ih =
+    go : (w : Option Step) → renewal_of g f Update updating ≡ w
+        → ((f' : List ℕ) → Ready g f' → left g f' ≤ m → trigger_answer g (triggered m g f') ≡ Ok None)
+        → trigger_answer g (triggered (suc m) g f) ≡ Ok None
+    go (Some d) e ih =
         rw (renews g f r, e, carried g f r d e) (ih (applied g f d) (still g f r d e) (omega (arith, less g f r d e)))
-    go Finished e ih = stays (suc m) g f (renews g f r ∙ e)
-    go (Refused n) e ih = absurd (never_refused g f Update updating n e)
+    go None e ih = stays (suc m) g f (renews g f r ∙ ap Ok e)
 
 pub trigger-ends : TriggerEnds
 trigger-ends g f h = let r = ready g f h in ends 3 g f r (left-max (trailer_of g f Update) g.count updating)

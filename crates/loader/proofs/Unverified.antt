@@ -14,8 +14,7 @@ use Rattle.flash.specs.Geometry.{geometry_check}
 use Rattle.flash.specs.declared.geometry.Geometry.{Geometry}
 use Rattle.slots.specs.Flags.{new, updated, flags, progress_of}
 use Rattle.slots.specs.Places.{trailer_of}
-use Rattle.slots.specs.declared.answers.Progress.{Progress}
-use Rattle.slots.specs.declared.answers.Progress.TheVariants as P
+use Rattle.std.specs.Prelude.{Result, Ok, Err}
 use Rattle.slots.specs.declared.places.Slot.TheVariants.{Update}
 use Rattle.slots.proofs.Exchanging.{exchange_step_at, exchange_due}
 use Rattle.slots.proofs.Reached.{new_at, ill_formed, flags-says}
@@ -23,8 +22,8 @@ use Rattle.loader.specs.Checks.{Checks}
 use Rattle.loader.specs.Decisions.{staged_decision, decision, next_step}
 use Rattle.loader.specs.MidSwap.{mid_swap, mid_swap_answer, NothingVerified, StepOr20, NeverBoots}
 use Rattle.loader.specs.States.{testing, staged}
-use Rattle.loader.specs.declared.answers.Answer.{Answer}
-use Rattle.loader.specs.declared.answers.Answer.TheVariants as A
+use Rattle.loader.specs.Answers.{Answer}
+use Rattle.loader.specs.Answers as A
 use Rattle.loader.proofs.ByProgress.{at_refusal, at_progress}
 
 module _ (g : Geometry) (f : List ℕ) where
@@ -32,9 +31,9 @@ module _ (g : Geometry) (f : List ℕ) where
   fs = flags g.count (trailer_of g f Update)
 
   -- the answer by the progress alone
-  answered : Progress → Answer
-  answered (P.At p) = A.Step (exchange_step_at g f p)
-  answered (P.Refused n) = A.Refused n
+  answered : Result ℕ ℕ → Answer
+  answered (Ok p) = A.Step (exchange_step_at g f p)
+  answered (Err n) = A.Refused n
 
   module _ (is : mid_swap g f ≡ true) where
     two : (staged g f && not (all new fs)) ≡ true
@@ -52,20 +51,20 @@ module _ (g : Geometry) (f : List ℕ) where
     not-updated = not-true (all updated fs) (and_right (staged g f && not (all new fs)) (not (all updated fs)) is)
 
     -- some sector is begun or done, and some is not done
-    begun : (p : ℕ) → progress_of fs ≡ P.At p → eqb p 0 ≡ false
+    begun : (p : ℕ) → progress_of fs ≡ Ok p → eqb p 0 ≡ false
     begun p e = sym (new_at fs p e) ∙ not_new
 
-    unfinished : (p : ℕ) → progress_of fs ≡ P.At p → p < 3 * g.count
+    unfinished : (p : ℕ) → progress_of fs ≡ Ok p → p < 3 * g.count
     unfinished p e =
         let s = flags-says g.count (trailer_of g f Update) p e in
         let n : p ≢ 3 * g.count = λ q. never (sym (eq-eqb p (3 * g.count) q) ∙ sym s.all-updated ∙ not-updated) in
         omega (arith, s.bound)
 
     module _ (ok : geometry_check g (length f) ≡ 0) (checks : Checks) (a b : Bool) where
-      by_progress : (r : Progress) → progress_of fs ≡ r → staged_decision checks g f testing a b ≡ answered r
+      by_progress : (r : Result ℕ ℕ) → progress_of fs ≡ r → staged_decision checks g f testing a b ≡ answered r
       unfolding answered
-      by_progress (P.Refused n) e = at_refusal checks g f ok testing a b n e
-      by_progress (P.At p) e = at_progress checks g f ok testing a b p e ∙ rw (begun p e, exchange_due g f p (unfinished p e))
+      by_progress (Err n) e = at_refusal checks g f ok testing a b n e
+      by_progress (Ok p) e = at_progress checks g f ok testing a b p e ∙ rw (begun p e, exchange_due g f p (unfinished p e))
 
       decides : decision checks g f a b ≡ answered (progress_of fs)
       unfolding decision
@@ -92,6 +91,6 @@ never_boots g f is checks a b = rw (ok, decides g f swapping ok checks a b) (go 
     swapping : mid_swap g f ≡ true
     swapping = and_right (eqb (geometry_check g (length f)) 0) (mid_swap g f) is
 
-    go : (r : Progress) → progress_of (fs g f) ≡ r → StepOr20 (answered g f r)
-    go (P.At p) e = tt
-    go (P.Refused n) e = (ill_formed (fs g f) n e).1
+    go : (r : Result ℕ ℕ) → progress_of (fs g f) ≡ r → StepOr20 (answered g f r)
+    go (Ok p) e = tt
+    go (Err n) e = (ill_formed (fs g f) n e).1

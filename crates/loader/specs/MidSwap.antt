@@ -1,6 +1,6 @@
--- When it is mid-swap, as document 01's "What the loader covers" has it. Claims: in mid-swap nothing is verified, that is, the answer is the
--- same under every verdict, every acceptance rule and every answer of the signature checker; it is never a boot; and a swap is begun (22)
--- exactly in mid-swap and where all flags are 0.
+-- When it is mid-swap, as document 01's "What the loader covers" has it. Claims: in mid-swap nothing is verified,
+-- that is, the answer is the same under every verdict, every acceptance rule and every answer of the signature
+-- checker; it is never a boot; and a swap is begun (22) exactly in mid-swap and where all flags are 0.
 use Rattle.std.specs.Prelude.{ℕ, Bool, true, not, ◌&&◌, ◌||◌, List, ◌≡◌, eqb, length}
 use Rattle.compare.specs.Compare.{all}
 use Rattle.flash.specs.Geometry.{geometry_check}
@@ -12,8 +12,8 @@ use Rattle.loader.specs.Checks.{Checks}
 use Rattle.loader.specs.Decisions.{next_step}
 use Rattle.loader.specs.Requests.{swap_begun}
 use Rattle.loader.specs.States.{staged}
-use Rattle.loader.specs.declared.answers.Answer.{Answer}
-use Rattle.loader.specs.declared.answers.Answer.TheVariants as A
+use Rattle.loader.specs.Answers.{Answer}
+use Rattle.loader.specs.Answers as A
 
 -- UPDATE is sound with 70, flags neither all F nor all 0
 unfoldable pub mid_swap : Geometry → List ℕ → Bool

@@ -1,144 +1,134 @@
 // Document 01, "The next step": the order of decision. A slot is verified where its decision asks for it,
 // and at most once; in mid-swap neither is.
-ghost use Rattle.std.specs.Prelude.{cond, ◌≡◌, eqb, length};
-ghost use Rattle.flash.specs.Geometry.{geometry_check};
-ghost use Rattle.slots.specs.Exchange.{exchange_of};
+ghost use Rattle.std.specs.Prelude.{◌≡◌, Ok};
+ghost use Rattle.refusal.specs.Numbers.{number_or_zero};
+ghost use Rattle.loader.specs.Answers.{number_for, numbered_answer};
 ghost use Rattle.loader.specs.Checks.{version_rule, image_checks};
-ghost use Rattle.loader.specs.Decisions.{or_else, boot_or, go_back, passed_over, spend, finish, staged_decision, decision};
+ghost use Rattle.loader.specs.Decisions.{or_else, boot_or, go_back, why, spend, finish, staged_decision, decision};
+ghost use Rattle.loader.specs.States.{testing};
+ghost use Rattle.slots.specs.Exchange.{exchange_of};
 
-use crate::answers::Answer;
+use crate::answers::{Answer, Signed};
 use crate::states::{SPENT, TESTING, UPDATING, is_on_trial, is_staged};
-use flash::{Geometry, Step};
+use flash::Step;
 use header::version_of;
 use image::verify;
-use slots::{Progress, Slot, Work};
+use refusal::Refusal;
+use slots::{Board, Slot};
 
-// 19 where BOOT's header passes its checks and UPDATE's version isn't greater, or 0.
-fn version_rule(boot: &[u8], update: &[u8]) -> u32
-    ensures { result ≡ version_rule boot.now update.now }
+// Refuses where BOOT's header passes its checks and UPDATE's version isn't greater.
+#[tactic(auto, unfolding(crate::specs::Checks::version_rule, header::specs::Checks::version_of))]
+fn version_rule(boot: &[u8], update: &[u8]) -> Result<(), Refusal>
+    ensures { number_or_zero result ≡ version_rule boot.now update.now }
 {
-    let old = version_of(boot);
-    if old.number != 0 {
-        return 0;
-    }
-    if old.version < version_of(update).version {
-        0
-    } else {
-        19
+    match version_of(boot) {
+        Ok(old) if version_of(update).unwrap_or(0) <= old => Err(Refusal::Version),
+        _ => Ok(()),
     }
 }
 
-// Decision 6. why is the number that UPDATE was passed over for, or 0.
-fn boot_or(flash: &[u8], g: Geometry, boot_signed: bool, why: u32) -> Answer
-    requires { geometry_check g (length flash.now) ≡ 0 }
-    ensures { result ≡ boot_or image_checks g flash.now boot_signed why }
+// Decision 6. why is what UPDATE was passed over for, if it was.
+#[tactic(auto, using(header::proofs::Refusals::refused), unfolding(crate::specs::Decisions::boot_or))]
+fn boot_or(board: &Board, signed: Signed, why: Option<Refusal>) -> Result<Answer, Refusal>
+    ensures { numbered_answer result
+        ≡ boot_or image_checks board.now.geometry board.now.flash.now signed.boot (number_for why) }
 {
-    let number = verify(slots::image(flash, g, Slot::Boot), boot_signed);
-    if number != 0 {
-        return Answer::Refused(number);
-    }
-    Answer::Boot(why)
+    verify(board.image(Slot::Boot), signed.boot)?;
+    Ok(Answer::Boot(why))
 }
 
 // Decision 5: a return is an update without the version rule.
-fn go_back(flash: &[u8], g: Geometry, boot_signed: bool, update_signed: bool) -> Answer
-    requires { geometry_check g (length flash.now) ≡ 0 }
-    ensures { result ≡ go_back image_checks g flash.now boot_signed update_signed }
+#[tactic(auto, using(header::proofs::Refusals::refused), unfolding(crate::specs::Decisions::go_back))]
+fn go_back(board: &Board, signed: Signed) -> Result<Answer, Refusal>
+    ensures { numbered_answer result
+        ≡ go_back image_checks board.now.geometry board.now.flash.now signed.boot signed.update }
 {
-    let number = verify(slots::image(flash, g, Slot::Update), update_signed);
-    if number != 0 {
-        return boot_or(flash, g, boot_signed, number);
+    if let Err(why) = verify(board.image(Slot::Update), signed.update) {
+        return boot_or(board, signed, Some(why));
     }
-    match slots::renewal(flash, g, Slot::Update, UPDATING) {
-        Work::Due(step) => Answer::Step(step),
-        Work::Finished => boot_or(flash, g, boot_signed, 0),
-        Work::Refused(number) => Answer::Refused(number),
+    match board.renewal(Slot::Update, UPDATING) {
+        Some(step) => Ok(Answer::Step(step)),
+        None => boot_or(board, signed, None),
     }
 }
 
-// Decision 3 where all flags are F: the number that UPDATE is passed over for, or 0. With other flags
-// nothing is asked.
-fn passed_over(flash: &[u8], g: Geometry, update_signed: bool, reached: usize) -> u32
-    requires { geometry_check g (length flash.now) ≡ 0 }
-    ensures { result ≡ cond (eqb reached 0) (passed_over image_checks g flash.now update_signed) 0 }
+// Decision 3 where all flags are F: refuses UPDATE where it is passed over. With other flags nothing is asked.
+#[tactic(auto, using(header::proofs::Refusals::refused), unfolding(crate::specs::Decisions::passed_over))]
+fn passed_over(board: &Board, signed: Signed, reached: usize) -> Result<(), Refusal>
+    ensures { number_or_zero result
+        ≡ why image_checks board.now.geometry board.now.flash.now signed.update reached }
 {
     if reached != 0 {
-        return 0;
+        return Ok(());
     }
-    let update = slots::image(flash, g, Slot::Update);
-    let number = verify(update, update_signed);
-    if number != 0 {
-        return number;
+    let update = board.image(Slot::Update);
+    verify(update, signed.update)?;
+    if is_on_trial(board) {
+        return Ok(());
     }
-    if is_on_trial(flash, g) {
-        return 0;
-    }
-    version_rule(slots::image(flash, g, Slot::Boot), update)
+    version_rule(board.image(Slot::Boot), update)
 }
 
 // The end of decision 2: the state 30, which is the last step before booting if BOOT passes.
-fn spend(flash: &[u8], g: Geometry, boot_signed: bool) -> Answer
-    requires { geometry_check g (length flash.now) ≡ 0 }
-    ensures { result ≡ spend image_checks g flash.now boot_signed }
+#[tactic(auto, using(header::proofs::Refusals::refused), unfolding(crate::specs::Decisions::spend))]
+fn spend(board: &Board, signed: Signed) -> Answer
+    ensures { numbered_answer (Ok result)
+        ≡ spend image_checks board.now.geometry board.now.flash.now signed.boot }
 {
-    let step = Step::Byte(slots::state_at(flash, g, Slot::Update), SPENT);
-    if verify(slots::image(flash, g, Slot::Boot), boot_signed) == 0 {
-        Answer::LastStep(step)
-    } else {
-        Answer::Step(step)
+    let step = Step::Byte(board.state_at(Slot::Update), SPENT);
+    match verify(board.image(Slot::Boot), signed.boot) {
+        Ok(()) => Answer::LastStep(step),
+        Err(_) => Answer::Step(step),
     }
 }
 
-// Decision 2. end_state is BOOT's when the swap ends.
-fn finish(flash: &[u8], g: Geometry, end_state: u8, boot_signed: bool) -> Answer
-    requires { geometry_check g (length flash.now) ≡ 0 }
-    ensures { result ≡ finish image_checks g flash.now end_state boot_signed }
+// Decision 2.
+#[tactic(auto, unfolding(crate::specs::Decisions::finish))]
+fn finish(board: &Board, signed: Signed) -> Answer
+    ensures { numbered_answer (Ok result)
+        ≡ finish image_checks board.now.geometry board.now.flash.now testing signed.boot }
 {
-    match slots::renewal(flash, g, Slot::Boot, end_state) {
-        Work::Due(step) => Answer::Step(step),
-        Work::Finished => spend(flash, g, boot_signed),
-        Work::Refused(number) => Answer::Refused(number),
+    match board.renewal(Slot::Boot, TESTING) {
+        Some(step) => Answer::Step(step),
+        None => spend(board, signed),
     }
 }
 
 // Decision 4, and 2 where all flags are 0.
-fn exchange(flash: &[u8], g: Geometry, end_state: u8, boot_signed: bool, reached: usize) -> Answer
-    requires { geometry_check g (length flash.now) ≡ 0 }
-    ensures { result ≡ or_else (exchange_of g flash.now reached) (finish image_checks g flash.now end_state boot_signed) }
+fn exchange(board: &Board, signed: Signed, reached: usize) -> Answer
+    ensures { numbered_answer (Ok result)
+        ≡ or_else (exchange_of board.now.geometry board.now.flash.now reached)
+        (finish image_checks board.now.geometry board.now.flash.now testing signed.boot) }
 {
-    match slots::exchange(flash, g, reached) {
-        Work::Due(step) => Answer::Step(step),
-        Work::Finished => finish(flash, g, end_state, boot_signed),
-        Work::Refused(number) => Answer::Refused(number),
+    match board.exchange(reached) {
+        Some(step) => Answer::Step(step),
+        None => finish(board, signed),
     }
 }
 
 // Decisions 1 to 4.
-fn swap(flash: &[u8], g: Geometry, end_state: u8, boot_signed: bool, update_signed: bool) -> Answer
-    requires { geometry_check g (length flash.now) ≡ 0 }
-    ensures { result ≡ staged_decision image_checks g flash.now end_state boot_signed update_signed }
+#[tactic(auto, using(crate::proofs::ByProgress::at_refusal))]
+fn swap(board: &Board, signed: Signed) -> Result<Answer, Refusal>
+    ensures { numbered_answer result
+        ≡ staged_decision image_checks board.now.geometry board.now.flash.now testing signed.boot signed.update }
 {
-    match slots::progress(flash, g) {
-        Progress::Refused(number) => Answer::Refused(number),
-        Progress::At(reached) => {
-            let why = passed_over(flash, g, update_signed, reached);
-            if why != 0 {
-                return boot_or(flash, g, boot_signed, why);
-            }
-            exchange(flash, g, end_state, boot_signed, reached)
-        }
+    let reached = board.progress()?;
+    match passed_over(board, signed, reached) {
+        Ok(()) => Ok(exchange(board, signed, reached)),
+        Err(why) => boot_or(board, signed, Some(why)),
     }
 }
 
-pub(crate) fn decide(flash: &[u8], g: Geometry, boot_signed: bool, update_signed: bool) -> Answer
-    requires { geometry_check g (length flash.now) ≡ 0 }
-    ensures { result ≡ decision image_checks g flash.now boot_signed update_signed }
+#[tactic(auto, unfolding(crate::specs::Decisions::decision))]
+pub(crate) fn decide(board: &Board, signed: Signed) -> Result<Answer, Refusal>
+    ensures { numbered_answer result
+        ≡ decision image_checks board.now.geometry board.now.flash.now signed.boot signed.update }
 {
-    if is_staged(flash, g) {
-        return swap(flash, g, TESTING, boot_signed, update_signed);
+    if is_staged(board) {
+        return swap(board, signed);
     }
-    if is_on_trial(flash, g) {
-        return go_back(flash, g, boot_signed, update_signed);
+    if is_on_trial(board) {
+        return go_back(board, signed);
     }
-    boot_or(flash, g, boot_signed, 0)
+    boot_or(board, signed, None)
 }

@@ -11,58 +11,50 @@ mod requests;
 mod states;
 
 ghost use Rattle.std.specs.Prelude.{◌≡◌};
+ghost use Rattle.refusal.specs.Numbers.{numbered};
+ghost use Rattle.loader.specs.Answers.{numbered_answer};
 ghost use Rattle.loader.specs.Checks.{image_checks};
 ghost use Rattle.loader.specs.Decisions.{next_step};
 ghost use Rattle.loader.specs.MidSwap.{mid_swap_answer};
 ghost use Rattle.loader.specs.Requests.{trigger_answer, confirm_answer};
 
-pub use answers::Answer;
-use flash::{Geometry, check_geometry};
-use slots::Work;
+pub use answers::{Answer, Signed};
+use flash::{Geometry, Step};
+use refusal::Refusal;
+use slots::Board;
 pub use states::UPDATING;
 
 // The next step on the way to a boot. The signature checker's answers go by the slots as they are, but in
 // mid-swap by the slots before that swap.
-pub fn next_step(flash: &[u8], g: Geometry, boot_signed: bool, update_signed: bool) -> Answer
-    ensures { result ≡ next_step image_checks g flash.now boot_signed update_signed }
+#[tactic(auto, using(header::proofs::Refusals::refused), unfolding(crate::specs::Decisions::next_step))]
+pub fn next_step(flash: &[u8], g: Geometry, signed: Signed) -> Result<Answer, Refusal>
+    ensures { numbered_answer result ≡ next_step image_checks g flash.now signed.boot signed.update }
 {
-    let number = check_geometry(g, flash.len());
-    if number != 0 {
-        return Answer::Refused(number);
-    }
-    decisions::decide(flash, g, boot_signed, update_signed)
+    decisions::decide(&Board::new(flash, g)?, signed)
 }
 
-// The next step that stages UPDATE's image, or finished; 22 while a swap is begun, 21 while BOOT is on
-// trial.
-pub fn trigger(flash: &[u8], g: Geometry) -> Work
-    ensures { result ≡ trigger_answer g flash.now }
+// The next step that stages UPDATE's image, or none where it is staged; refused while a swap is begun and
+// while BOOT is on trial.
+#[tactic(auto, using(header::proofs::Refusals::refused), unfolding(crate::specs::Requests::trigger_answer))]
+pub fn trigger(flash: &[u8], g: Geometry) -> Result<Option<Step>, Refusal>
+    ensures { numbered result ≡ trigger_answer g flash.now }
 {
-    let number = check_geometry(g, flash.len());
-    if number != 0 {
-        return Work::Refused(number);
-    }
-    requests::trigger(flash, g)
+    requests::trigger(&Board::new(flash, g)?)
 }
 
-// The step that confirms the image on trial, or finished where it is confirmed; 22 while a swap is begun,
-// 23 where nothing is on trial.
-pub fn confirm(flash: &[u8], g: Geometry) -> Work
-    ensures { result ≡ confirm_answer g flash.now }
+// The step that confirms the image on trial, or none where it is confirmed; refused while a swap is begun
+// and where nothing is on trial.
+#[tactic(auto, using(header::proofs::Refusals::refused), unfolding(crate::specs::Requests::confirm_answer))]
+pub fn confirm(flash: &[u8], g: Geometry) -> Result<Option<Step>, Refusal>
+    ensures { numbered result ≡ confirm_answer g flash.now }
 {
-    let number = check_geometry(g, flash.len());
-    if number != 0 {
-        return Work::Refused(number);
-    }
-    requests::confirm(flash, g)
+    requests::confirm(&Board::new(flash, g)?)
 }
 
 // Whether it is mid-swap; not where the geometry is refused.
+#[tactic(auto, using(header::proofs::Refusals::refused), unfolding(crate::specs::MidSwap::mid_swap_answer))]
 pub fn in_mid_swap(flash: &[u8], g: Geometry) -> bool
     ensures { result ≡ mid_swap_answer g flash.now }
 {
-    if check_geometry(g, flash.len()) != 0 {
-        return false;
-    }
-    mid_swap::is_mid_swap(flash, g)
+    Board::new(flash, g).is_ok_and(|board| mid_swap::is_mid_swap(&board))
 }

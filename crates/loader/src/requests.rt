@@ -1,51 +1,46 @@
 // Document 01, "The next step": trigger and confirm.
-ghost use Rattle.std.specs.Prelude.{◌≡◌, length};
-ghost use Rattle.flash.specs.Geometry.{geometry_check};
+ghost use Rattle.std.specs.Prelude.{◌≡◌};
+ghost use Rattle.refusal.specs.Numbers.{numbered};
 ghost use Rattle.loader.specs.Requests.{swap_begun, triggering, confirming};
 
 use crate::states::{SUCCESS, UPDATING, is_on_trial, is_staged};
-use flash::{Geometry, Step};
-use slots::{Progress, Slot, Work};
+use flash::Step;
+use refusal::Refusal;
+use slots::{Board, Slot};
 
 // Whether UPDATE is sound with 70 and some flag isn't F.
-fn is_swap_begun(flash: &[u8], g: Geometry) -> bool
-    requires { geometry_check g (length flash.now) ≡ 0 }
-    ensures { result ≡ swap_begun g flash.now }
+#[tactic(auto, using(crate::proofs::Tested::all_new), unfolding(crate::specs::Requests::swap_begun))]
+fn is_swap_begun(board: &Board) -> bool
+    ensures { result ≡ swap_begun board.now.geometry board.now.flash.now }
 {
-    if is_staged(flash, g) {
-        match slots::progress(flash, g) {
-            Progress::At(reached) => return reached != 0,
-            Progress::Refused(_) => return true,
-        }
-    }
-    false
+    is_staged(board) && board.progress() != Ok(0)
 }
 
-pub(crate) fn trigger(flash: &[u8], g: Geometry) -> Work
-    requires { geometry_check g (length flash.now) ≡ 0 }
-    ensures { result ≡ triggering g flash.now }
+#[tactic(auto, unfolding(crate::specs::Requests::triggering))]
+pub(crate) fn trigger(board: &Board) -> Result<Option<Step>, Refusal>
+    ensures { numbered result ≡ triggering board.now.geometry board.now.flash.now }
 {
-    if is_swap_begun(flash, g) {
-        return Work::Refused(22);
+    if is_swap_begun(board) {
+        return Err(Refusal::SwapBegun);
     }
-    if is_on_trial(flash, g) {
-        return Work::Refused(21);
+    if is_on_trial(board) {
+        return Err(Refusal::OnTrial);
     }
-    slots::renewal(flash, g, Slot::Update, UPDATING)
+    Ok(board.renewal(Slot::Update, UPDATING))
 }
 
-pub(crate) fn confirm(flash: &[u8], g: Geometry) -> Work
-    requires { geometry_check g (length flash.now) ≡ 0 }
-    ensures { result ≡ confirming g flash.now }
+#[tactic(auto, unfolding(crate::specs::Requests::confirming))]
+pub(crate) fn confirm(board: &Board) -> Result<Option<Step>, Refusal>
+    ensures { numbered result ≡ confirming board.now.geometry board.now.flash.now }
 {
-    if is_swap_begun(flash, g) {
-        return Work::Refused(22);
+    if is_swap_begun(board) {
+        return Err(Refusal::SwapBegun);
     }
-    if is_on_trial(flash, g) {
-        return Work::Due(Step::Byte(slots::state_at(flash, g, Slot::Boot), SUCCESS));
+    if is_on_trial(board) {
+        return Ok(Some(Step::Byte(board.state_at(Slot::Boot), SUCCESS)));
     }
-    if slots::is_sound_with(flash, g, Slot::Boot, SUCCESS) {
-        return Work::Finished;
+    if board.is_sound_with(Slot::Boot, SUCCESS) {
+        return Ok(None);
     }
-    Work::Refused(23)
+    Err(Refusal::NothingOnTrial)
 }

@@ -1,10 +1,8 @@
 // Document 01, "Trailers and flags": the states that the decisions go by.
-ghost use Rattle.std.specs.Prelude.{◌≡◌, length};
-ghost use Rattle.flash.specs.Geometry.{geometry_check};
+ghost use Rattle.std.specs.Prelude.{◌≡◌};
 ghost use Rattle.loader.specs.States.{staged, on_trial};
 
-use flash::Geometry;
-use slots::{Slot, is_sound_with};
+use slots::{Board, Slot};
 
 pub const UPDATING: u8 = 0x70;
 
@@ -14,16 +12,14 @@ pub(crate) const TESTING: u8 = 0x10;
 
 pub(crate) const SUCCESS: u8 = 0x00;
 
-pub(crate) fn is_staged(flash: &[u8], g: Geometry) -> bool
-    requires { geometry_check g (length flash.now) ≡ 0 }
-    ensures { result ≡ staged g flash.now }
+pub(crate) fn is_staged(board: &Board) -> bool
+    ensures { result ≡ staged board.now.geometry board.now.flash.now }
 {
-    is_sound_with(flash, g, Slot::Update, UPDATING)
+    board.is_sound_with(Slot::Update, UPDATING)
 }
 
-pub(crate) fn is_on_trial(flash: &[u8], g: Geometry) -> bool
-    requires { geometry_check g (length flash.now) ≡ 0 }
-    ensures { result ≡ on_trial g flash.now }
+pub(crate) fn is_on_trial(board: &Board) -> bool
+    ensures { result ≡ on_trial board.now.geometry board.now.flash.now }
 {
-    is_sound_with(flash, g, Slot::Boot, TESTING)
+    board.is_sound_with(Slot::Boot, TESTING)
 }

@@ -1,7 +1,5 @@
 -- A decimal number given as text: one digit or more, and at most a given number.
-use Rattle.std.specs.Prelude.{ℕ, ◌+◌, ◌-◌, ◌*◌, Bool, true, cond, ◌&&◌, List, [], ◌∷◌, ltb, leb, length}
-use Rattle.pack.specs.declared.decimal.Decimal.{Decimal}
-use Rattle.pack.specs.declared.decimal.Decimal.TheVariants.{Number, Refused}
+use Rattle.std.specs.Prelude.{ℕ, ◌+◌, ◌-◌, ◌*◌, Bool, true, cond, ◌&&◌, List, [], ◌∷◌, Option, Some, None, ltb, leb, length}
 
 -- the characters 0 to 9
 abbrev pub is_digit : ℕ → Bool
@@ -16,10 +14,6 @@ unfoldable pub value_from : ℕ → List ℕ → ℕ
 value_from x [] = x
 value_from x (c ∷ cs) = value_from (10 * x + (c - 48)) cs
 
-unfoldable pub decimal_in : ℕ → List ℕ → Decimal
+unfoldable pub decimal_in : ℕ → List ℕ → Option ℕ
 decimal_in most text =
-    cond (ltb 0 (length text) && (all_digits text && leb (value_from 0 text) most)) (Number (value_from 0 text)) Refused
-
--- the code's own: one digit behind the number x
-unfoldable pub with_digit : ℕ → ℕ → ℕ → Decimal
-with_digit most x c = cond (is_digit c && leb (10 * x + (c - 48)) most) (Number (10 * x + (c - 48))) Refused
+    cond (ltb 0 (length text) && (all_digits text && leb (value_from 0 text) most)) (Some (value_from 0 text)) None

@@ -10,111 +10,92 @@ mod decimal;
 mod input;
 mod texts;
 
-ghost use Rattle.std.specs.Prelude.{◌≡◌, replicate};
+ghost use Rattle.std.specs.Prelude.{◌≡◌, replicate, IfOk};
+ghost use Rattle.refusal.specs.Numbers.{number_or_zero};
 ghost use Rattle.writer.specs.Writer.{write_check, buffer_after};
 
-use files::{argument, is_given};
-use input::{read_exact, read_most, read_start, say};
+use files::{argument, is_given, read_most, say};
+use input::{read_exact, read_start};
+use refusal::Refusal;
+use show::Hex;
 use std::env::Env;
 use std::io;
 use std::rt::Files;
-use texts::{Texts, fields_in};
-use writer::Fields;
+use texts::{NoNumber, fields_in};
+use writer::{Contents, Fields};
 
 // What the largest slot of document 01 holds: 64 sectors of 4096 bytes, less the header.
 const MOST_FIRMWARE: usize = 261_888;
 
-// A header, with the number 0; or the writer's refusal, and zeros.
-#[derive(Drop)]
-struct Header {
-    number: u32,
-    bytes: [u8; 256],
-}
-
-fn header_for(
-    fields: Fields,
-    firmware: &[u8],
-    custom: &[u8],
-    hint: &[u8; 32],
-    signature: &[u8; 64],
-) -> Header
-    ensures number { result.number ≡ write_check (replicate 256 0) firmware.now custom.now }
-    ensures bytes { result.bytes ≡ buffer_after (replicate 256 0) fields firmware.now custom.now hint.now signature.now }
+fn header_for(contents: &Contents<'_>, signature: &[u8; 64]) -> Result<[u8; 256], Refusal>
+    ensures number { number_or_zero result ≡ write_check (replicate 256 0) contents.now.firmware.now contents.now.custom.now }
+    ensures bytes { IfOk result (λ bytes. bytes ≡ buffer_after (replicate 256 0) contents.now.fields contents.now.firmware.now
+        contents.now.custom.now contents.now.hint.now signature.now) }
 {
     let mut bytes = [0u8; 256];
-    let number = writer::write_header(&mut bytes, fields, firmware, custom, hint, signature);
-    Header { number, bytes }
+    contents.write_header(&mut bytes, signature)?;
+    Ok(bytes)
 }
 
-fn say_refusal(rt: &impl Eprint, number: u32) {
-    let _ = eprintln!(rt; "REFUSE {number}");
-}
-
-fn print_digest(
-    rt: &(impl Print + Eprint),
-    fields: Fields,
-    firmware: &[u8],
-    custom: &[u8],
-    hint: &[u8; 32],
-) -> io::Result<()> {
-    let answer = writer::digest_to_sign(fields, firmware, custom, hint);
-    if answer.number != 0 {
-        say_refusal(rt, answer.number);
-        return Ok(());
+fn print_digest(rt: &(impl Print + Eprint), contents: &Contents<'_>) -> io::Result<()> {
+    match contents.digest_to_sign() {
+        Ok(digest) => println!(rt; "{}", Hex(digest))?,
+        Err(refusal) => say(rt, refusal),
     }
-    show::hex(rt, &answer.bytes)
+    Ok(())
 }
 
-fn print_image<R: Env + Files + Print + Eprint>(
-    rt: &R,
-    fields: Fields,
-    firmware: &[u8],
-    custom: &[u8],
-    hint: &[u8; 32],
-) -> io::Result<()> {
-    let mut signature = [0u8; 64];
-    if !read_exact(rt, 7, &mut signature, "the signature is not of 64 bytes") {
-        return Ok(());
-    }
-    let header = header_for(fields, firmware, custom, hint, &signature);
-    if header.number != 0 {
-        say_refusal(rt, header.number);
-        return Ok(());
-    }
-    rt.write_all(&header.bytes)?;
-    rt.write_all(firmware)
-}
-
-// One byte more than a custom run may have is enough for the writer to refuse it.
-fn pack<R: Env + Files + Print + Eprint>(rt: &R, fields: Fields, signed: bool) -> io::Result<()> {
-    let mut firmware = [0u8; MOST_FIRMWARE];
-    let mut custom = [0u8; 83];
-    let mut hint = [0u8; 32];
-    let too_long = "the firmware is longer than 261888 bytes";
-    let Some(n) = read_most(rt, 1, &mut firmware, too_long) else {
+fn print_image<R: Env + Files + Print + Eprint>(rt: &R, contents: &Contents<'_>) -> io::Result<()> {
+    let mut space = [0u8; 65];
+    let wrong = "the signature is not of 64 bytes";
+    let Some(signature) = read_exact(rt, 7, &mut space, wrong) else {
         return Ok(());
     };
-    if !read_exact(rt, 5, &mut hint, "the hint is not of 32 bytes") {
-        return Ok(());
+    match header_for(contents, signature) {
+        Ok(header) => {
+            rt.write_all(&header)?;
+            rt.write_all(contents.firmware)?;
+        }
+        Err(refusal) => say(rt, refusal),
     }
-    let Some(k) = read_start(rt, 6, &mut custom) else {
+    Ok(())
+}
+
+// Each space has a byte more than the most that is taken, so that a longer file is seen. The writer refuses a run that
+// is longer.
+fn pack<R: Env + Files + Print + Eprint>(rt: &R, fields: Fields, signed: bool) -> io::Result<()> {
+    let mut firmware = [0u8; MOST_FIRMWARE + 1];
+    let mut hint = [0u8; 33];
+    let mut custom = [0u8; 84];
+    let too_long = "the firmware is longer than 261888 bytes";
+    let Some(firmware) = read_most(rt, 1, &mut firmware, too_long) else {
         return Ok(());
+    };
+    let Some(hint) = read_exact(rt, 5, &mut hint, "the hint is not of 32 bytes") else {
+        return Ok(());
+    };
+    let Some(custom) = read_start(rt, 6, &mut custom) else {
+        return Ok(());
+    };
+    let contents = Contents {
+        fields,
+        firmware,
+        custom,
+        hint,
     };
     if signed {
-        print_image(rt, fields, &firmware[..n], &custom[..k], &hint)
+        print_image(rt, &contents)
     } else {
-        print_digest(rt, fields, &firmware[..n], &custom[..k], &hint)
+        print_digest(rt, &contents)
     }
 }
 
-fn fields_given(rt: &impl Env) -> Texts {
-    let mut version = [0u8; 4096];
-    let mut timestamp = [0u8; 4096];
-    let mut kind = [0u8; 4096];
-    let v = argument(rt, 2, &mut version);
-    let t = argument(rt, 3, &mut timestamp);
-    let k = argument(rt, 4, &mut kind);
-    fields_in(&version[..v], &timestamp[..t], &kind[..k])
+fn fields_given(rt: &impl Env) -> Result<Fields, NoNumber> {
+    fields_in(
+        argument(rt, 2, &mut [0u8; 4096]),
+        argument(rt, 3, &mut [0u8; 4096]),
+        argument(rt, 4, &mut [0u8; 4096]),
+    )
 }
 
 fn main(rt: HostRuntime) {
@@ -126,13 +107,11 @@ fn main(rt: HostRuntime) {
         return;
     }
     match fields_given(&rt) {
-        Texts::Fields(fields) => {
+        Ok(fields) => {
             if let Err(e) = pack(&rt, fields, is_given(&rt, 7)) {
                 files::fail(&rt, b"standard output", e);
             }
         }
-        Texts::NoVersion => say(&rt, "the version is no decimal number below 2^32"),
-        Texts::NoTimestamp => say(&rt, "the timestamp is no decimal number below 2^64"),
-        Texts::NoType => say(&rt, "the type is no decimal number below 2^16"),
+        Err(wrong) => say(&rt, wrong),
     }
 }

@@ -15,7 +15,7 @@ use Rattle.flash.specs.Bytes.{blank, overlay, ands, write}
 use Rattle.flash.specs.Cuts.{Bytes, sound}
 use Rattle.flash.specs.Geometry.{placed, disjoint, geometry_check}
 use Rattle.flash.specs.Steps.{sector_start, trailer_byte, mark_place, closing, step_check, flash_after}
-use Rattle.header.specs.Checks.{tags_check, coverage_check, header_check, version_of}
+use Rattle.header.specs.Checks.{tags_check, coverage_check, header_check, version_in}
 use Rattle.header.specs.Lookup.{lookup_from, lookup, view_of}
 use Rattle.header.specs.Numbers.{number_at}
 use Rattle.header.specs.Types.{digest_type}
@@ -25,13 +25,13 @@ use Rattle.slots.specs.Exchange.{source, target, next_flag, exchange_step}
 use Rattle.slots.specs.Flags.{half, with_half, flag_at, flag, tab, flags, well_formed, lowest_unfinished, flag_step, flag_step_of}
 use Rattle.slots.specs.Places.{offset, bytes_at, image_of}
 use Rattle.slots.specs.Trailers.{state_at, sound_with, renewed_to, all_but_state, renew}
-use Rattle.slots.specs.declared.answers.Work.TheVariants.{Finished}
+use Rattle.std.specs.Prelude.{Ok, None}
 use Rattle.slots.specs.declared.places.Slot.{Slot}
 use Rattle.slots.specs.declared.places.Slot.TheVariants.{Boot, Update}
 use Rattle.loader.specs.Checks.{version_rule}
 use Rattle.loader.specs.Decisions.{boot_or, go_back, passed_over, spend, finish, staged_decision, decision, next_step}
 use Rattle.loader.specs.Requests.{swap_begun, triggering, trigger_answer}
-use Rattle.loader.specs.declared.answers.Answer.TheVariants as A
+use Rattle.loader.specs.Answers as A
 use Rattle.runner.specs.Counts.{roomy, counts_check}
 use Rattle.runner.specs.Runs.{Outcome, all_updated, meets, run_for, run_check, run_of}
 use Rattle.power_loss.specs.Demand.{Triggered}
@@ -68,12 +68,12 @@ passes Update = rw update_is two-passes
 
 -- ---- the premises
 
-one-first : (version_of one).version ≡ 1
-unfolding covered image one number_at step_at walk_in walk lookup_from lookup tags_check coverage_check header_check version_of
+one-first : version_in one ≡ 1
+unfolding covered image one number_at step_at walk_in walk lookup_from lookup tags_check coverage_check header_check
 one-first = refl
 
-two-second : (version_of two).version ≡ 2
-unfolding covered image two number_at step_at walk_in walk lookup_from lookup tags_check coverage_check header_check version_of
+two-second : version_in two ≡ 2
+unfolding covered image two number_at step_at walk_in walk lookup_from lookup tags_check coverage_check header_check
 two-second = refl
 
 -- a list of bytes, as a test
@@ -91,7 +91,7 @@ small_board : small board ≡ true
 unfolding covered image one two board small
 small_board = refl
 
-finished : trigger_answer geometry board ≡ Finished
+finished : trigger_answer geometry board ≡ Ok None
 unfolding covered image one two board trigger_answer triggering swap_begun renew renewed_to sound_with sound same all half flag_at flag tab flags
     offset bytes_at closing placed disjoint geometry_check
 finished = refl
@@ -128,10 +128,10 @@ with_verdict v = run_of (record { verdict = v; acceptance = version_rule }) geom
 record Ran (o : Outcome) : Type 0 where
   steps : o.steps ≡ twenty_steps
   boots : o.answer ≡ A.Boot 0
-  version : (version_of (image_of geometry o.flash Boot)).version ≡ 2
+  version : version_in (image_of geometry o.flash Boot) ≡ 2
 
 looked_run : Ran (with_verdict looked)
-unfolding covered image one two board looked version_rule number_at step_at walk_in walk lookup_from lookup tags_check coverage_check header_check version_of
+unfolding covered image one two board looked version_rule number_at step_at walk_in walk lookup_from lookup tags_check coverage_check header_check
     run_of run_check roomy counts_check run_for meets all_updated next_step decision staged_decision finish spend passed_over boot_or go_back
     source target next_flag exchange_step half with_half flag_at flag tab flags well_formed lowest_unfinished flag_step flag_step_of offset bytes_at image_of
     state_at sound_with renewed_to all_but_state renew same all blank overlay ands write sound placed disjoint geometry_check sector_start trailer_byte

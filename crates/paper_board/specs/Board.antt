@@ -4,11 +4,11 @@ use Rattle.std.specs.Prelude.{ℕ, Bool, true, List, [], ◌∷◌, ◌++◌, �
 use Rattle.flash.specs.declared.geometry.Geometry.{Geometry}
 use Rattle.flash.specs.declared.steps.Step.{Step}
 use Rattle.flash.specs.declared.steps.Step.TheVariants.{Erase, Copy, Byte, Mark}
-use Rattle.header.specs.Checks.{version_of}
+use Rattle.header.specs.Checks.{version_in}
 use Rattle.slots.specs.Places.{image_of}
 use Rattle.slots.specs.declared.places.Slot.TheVariants.{Boot}
 use Rattle.loader.specs.Checks.{image_checks}
-use Rattle.loader.specs.declared.answers.Answer.TheVariants as A
+use Rattle.loader.specs.Answers as A
 use Rattle.runner.specs.Runs.{Outcome, run_of}
 use Rattle.runner.specs.declared.counts.StepCounts.{StepCounts}
 use Rattle.power_loss.specs.Demand.{Triggered, Survives}
@@ -91,4 +91,4 @@ pub record PaperBoard : Type 0 where
   pub survives : Survives image_checks signed_all geometry board
   pub steps : run.steps ≡ twenty_steps
   pub boots : run.answer ≡ A.Boot 0
-  pub version : (version_of (image_of geometry run.flash Boot)).version ≡ 2
+  pub version : version_in (image_of geometry run.flash Boot) ≡ 2

@@ -1,5 +1,5 @@
 -- Document 01, "Bench cases": the starred ones, all of them, one list under one claim (proofs/Proved.antt).
-use Rattle.std.specs.Prelude.{ℕ, ◌/◌, ◌%◌, true, cond, ◌&&◌, ◌≡◌, eqb, get_or, replicate}
+use Rattle.std.specs.Prelude.{ℕ, ◌/◌, ◌%◌, true, cond, ◌&&◌, Result, Ok, Err, ◌≡◌, eqb, get_or, replicate}
 use mathlib.Core.List.{List, [], ◌∷◌, ◌++◌, Memᴰ}
 use Rattle.std.proofs.lemmas.List.Edits.{sets}
 use Rattle.compare.specs.Compare.{all}
@@ -9,16 +9,15 @@ use Rattle.flash.specs.declared.steps.Step.TheVariants.{Byte}
 use Rattle.header.specs.Checks.{header_check}
 use Rattle.header.specs.Lookup.{lookup}
 use Rattle.header.specs.Numbers.{number_at}
-use Rattle.header.specs.declared.tags.Lookup.{Lookup}
-use Rattle.header.specs.declared.tags.Lookup.TheVariants as L
+use Rattle.header.specs.declared.tags.Tag.{Tag}
 use Rattle.slots.specs.Flags.{new, swapping, updated, flags, lowest_unfinished}
 use Rattle.slots.specs.Places.{trailer_of, image_of}
 use Rattle.slots.specs.declared.places.Slot.TheVariants.{Boot, Update}
 use Rattle.loader.specs.Checks.{image_checks}
 use Rattle.loader.specs.Decisions.{next_step}
 use Rattle.loader.specs.States.{staged}
-use Rattle.loader.specs.declared.answers.Answer.{Answer}
-use Rattle.loader.specs.declared.answers.Answer.TheVariants as A
+use Rattle.loader.specs.Answers.{Answer}
+use Rattle.loader.specs.Answers as A
 
 -- an input, and what is asked of it
 pub data Input : Type 0 where
@@ -83,9 +82,9 @@ header_with place bytes = sets (replicate 256 0xFF) place bytes
 abbrev pub tag : ℕ → ℕ → List ℕ → List ℕ
 tag k n bytes = k ∷ 0 ∷ n ∷ 0 ∷ bytes
 
-abbrev pub lookup_says : List ℕ → Lookup → Said
-lookup_says h (L.Found t) = content t.at t.len (number_at t.len h t.at)
-lookup_says h (L.Refused n) = refused n
+abbrev pub lookup_says : List ℕ → Result Tag ℕ → Said
+lookup_says h (Ok t) = content t.at t.len (number_at t.len h t.at)
+lookup_says h (Err n) = refused n
 
 -- the mark, the size n and the five mandatory tags
 abbrev pub header_of : ℕ → List ℕ

@@ -14,11 +14,11 @@ use Rattle.flash.specs.Geometry.{geometry_check}
 use Rattle.flash.specs.Valid.{Valid}
 use Rattle.flash.specs.declared.geometry.Geometry.{Geometry}
 use Rattle.flash.proofs.Areas.{valid}
-use Rattle.header.specs.Checks.{version_of}
+use Rattle.header.specs.Checks.{header_check, version_in}
 use Rattle.slots.specs.Flags.{new, flags}
 use Rattle.slots.specs.Places.{offset, bytes_at, image_of, trailer_of}
 use Rattle.slots.specs.Trailers.{flag_count, renewed_to, renew, renewal_of}
-use Rattle.slots.specs.declared.answers.Work.TheVariants.{Finished, Refused}
+use Rattle.std.specs.Prelude.{Ok, Err, None}
 use Rattle.slots.specs.declared.places.Place.TheVariants.{Sector}
 use Rattle.slots.specs.declared.places.Slot.TheVariants.{Boot, Update}
 use Rattle.slots.specs.declared.places.Slot.{Slot}
@@ -47,21 +47,22 @@ record Ready (g : Geometry) (f : List ℕ) : Type 0 where
   is-staged : staged g f ≡ true
   is-new : all new (flags g.count (trailer_of g f Update)) ≡ true
 
-finished_renewed : (g : Geometry) (f : List ℕ) (s : Slot) (x : ℕ) → renewal_of g f s x ≡ Finished
+finished_renewed : (g : Geometry) (f : List ℕ) (s : Slot) (x : ℕ) → renewal_of g f s x ≡ None
     → renewed_to (trailer_of g f s) (flag_count g s) x ≡ true
 unfolding renew
-finished_renewed g f s x = by_test (λ w. w ≡ Finished → renewed_to (trailer_of g f s) (flag_count g s) x ≡ true)
+finished_renewed g f s x = by_test (λ w. w ≡ None → renewed_to (trailer_of g f s) (flag_count g s) x ≡ true)
     (renewed_to (trailer_of g f s) (flag_count g s) x) (λ e q. e) (λ e q. never_same (cc))
 
-ready : (g : Geometry) (f : List ℕ) → trigger_answer g f ≡ Finished → Ready g f
+ready : (g : Geometry) (f : List ℕ) → trigger_answer g f ≡ Ok None → Ready g f
 unfolding trigger_answer triggering renewed_to
 ready g f = go (eqb (geometry_check g (length f)) 0) refl (swap_begun g f) (on_trial g f)
   where
     go : (x : Bool) → eqb (geometry_check g (length f)) 0 ≡ x → (y z : Bool)
-        → cond x (cond y (Refused 22) (cond z (Refused 21) (renewal_of g f Update updating))) (Refused (geometry_check g (length f))) ≡ Finished
+        → cond x (cond y (Err 22) (cond z (Err 21) (Ok (renewal_of g f Update updating)))) (Err (geometry_check g (length f))) ≡ Ok None
         → Ready g f
     go true e false false w =
-        let q = finished_renewed g f Update updating w in
+        let none : renewal_of g f Update updating ≡ None = cc in
+        let q = finished_renewed g f Update updating none in
         record {
           ok = eqb-true (geometry_check g (length f)) 0 e;
           is-staged = and_left (staged g f) (all new (flags g.count (trailer_of g f Update))) q;
@@ -161,8 +162,8 @@ nothing_is_lost sig g f st = demand_three image_checks sig g f (record {
   bytes = st.bytes;
   finished = st.finished;
   passes = st.passes;
-  replaces = rw (lt-ltb (version_of (image_of g f Boot)).version (version_of (image_of g f Update)).version st.higher)
-      (either (eqb (version_of (image_of g f Boot)).number 0));
+  replaces = rw (lt-ltb (version_in (image_of g f Boot)) (version_in (image_of g f Update)) st.higher)
+      (either (eqb (header_check (image_of g f Boot)) 0));
 })
   where
     either : (c : Bool) → ◌≡◌ {A = ℕ} (cond c 0 0) 0

@@ -16,16 +16,16 @@ use Rattle.flash.specs.declared.steps.Step.{Step}
 use Rattle.slots.specs.Flags.{flags, progress_of}
 use Rattle.slots.specs.Places.{image_of, trailer_of}
 use Rattle.slots.specs.Trailers.{state_at, renew, renewal_of}
-use Rattle.slots.specs.declared.answers.Progress.TheVariants.{At, Refused}
-use Rattle.slots.specs.declared.answers.Work.TheVariants.{Due}
+use Rattle.std.specs.Prelude.{Some, Ok, Err}
 use Rattle.slots.specs.declared.places.Slot.TheVariants.{Boot, Update}
 use Rattle.slots.proofs.Corresponding.{one_to_one}
 use Rattle.slots.proofs.Exchanging.{exchange_step_at, exchange_due, exchange_finished}
 use Rattle.loader.specs.Checks.{Checks}
 use Rattle.loader.specs.Decisions.{boot_or, go_back, passed_over, spend, finish, decision, next_step}
 use Rattle.loader.specs.States.{updating, spent, testing, staged, on_trial}
-use Rattle.loader.specs.declared.answers.Answer.TheVariants as A
-use Rattle.loader.proofs.ByProgress.{why, at_refusal, at_progress}
+use Rattle.loader.specs.Answers as A
+use Rattle.loader.specs.Decisions.{why}
+use Rattle.loader.proofs.ByProgress.{at_refusal, at_progress}
 use Rattle.runner.specs.Runs.{all_updated}
 use Rattle.power_loss.specs.RunEnds.{IsEnd}
 use Rattle.power_loss.proofs.Ends.{renewed_sound}
@@ -47,7 +47,7 @@ module _ (checks : Checks) (g : Geometry) (f : List ℕ) (ok : geometry_check g 
   go_back_lem idle trial = decided ∙ rw (idle, trial)
 
   -- 5: UPDATE passes, or it doesn't
-  pub back_due : staged g f ≡ false → on_trial g f ≡ true → verdict ≡ 0 → (d : Step) → renewal_of g f Update updating ≡ Due d
+  pub back_due : staged g f ≡ false → on_trial g f ≡ true → verdict ≡ 0 → (d : Step) → renewal_of g f Update updating ≡ Some d
       → next_step checks g f a b ≡ A.Step d
   unfolding go_back
   back_due idle trial v d e = go_back_lem idle trial ∙ rw (v, e)
@@ -68,7 +68,7 @@ module _ (checks : Checks) (g : Geometry) (f : List ℕ) (ok : geometry_check g 
   -- ---- a swap is pending
 
   -- 1
-  pub at_ill_formed : staged g f ≡ true → (n : ℕ) → progress_of (flags g.count (trailer_of g f Update)) ≡ Refused n
+  pub at_ill_formed : staged g f ≡ true → (n : ℕ) → progress_of (flags g.count (trailer_of g f Update)) ≡ Err n
       → next_step checks g f a b ≡ A.Refused n
   unfolding decision
   at_ill_formed e n q = decided ∙ rw e (at_refusal checks g f ok testing a b n q)
@@ -87,7 +87,7 @@ module _ (checks : Checks) (g : Geometry) (f : List ℕ) (ok : geometry_check g 
 module _ (t : Setting) {p : ℕ} {f : List ℕ} (h : Going t p f) where
   open t use {g}
 
-  is_at : progress_of (flags g.count (trailer_of g f Update)) ≡ At p
+  is_at : progress_of (flags g.count (trailer_of g f Update)) ≡ Ok p
   unfolding progress_of
   is_at = rw (h.reached.formed, h.reached.reached)
 
@@ -124,7 +124,7 @@ module _ (t : Setting) {f : List ℕ} (h : Going t (3 * t.g.count) f) (checks : 
       ∙ rw h.is-staged (at_progress checks g f h.base.ok testing a b (3 * g.count) (is_at t h)
       ∙ rw (ne_eqb (3 * g.count) 0 e, exchange_finished g f (3 * g.count) (omega arith)))
 
-  pub finish-due : (d : Step) → renewal_of g f Boot testing ≡ Due d → next_step checks g f a b ≡ A.Step d
+  pub finish-due : (d : Step) → renewal_of g f Boot testing ≡ Some d → next_step checks g f a b ≡ A.Step d
   unfolding finish
   finish-due d e = at_finish ∙ rw e
 

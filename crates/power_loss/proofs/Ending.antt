@@ -12,8 +12,7 @@ use Rattle.flash.specs.declared.geometry.Geometry.{Geometry}
 use Rattle.flash.proofs.Areas.{valid}
 use Rattle.slots.specs.Flags.{flags, progress_of}
 use Rattle.slots.specs.Places.{offset, bytes_at, trailer_of}
-use Rattle.slots.specs.declared.answers.Progress.TheVariants as P
-use Rattle.slots.specs.declared.answers.Progress.{Progress}
+use Rattle.std.specs.Prelude.{Result, Ok, Err}
 use Rattle.slots.specs.declared.places.Slot.TheVariants.{Update}
 use Rattle.slots.proofs.Exchanging.{source_at, target_at}
 use Rattle.slots.proofs.Reached.{flags_at, flags-says}
@@ -21,7 +20,7 @@ use Rattle.slots.proofs.Reading.{length-flags}
 use Rattle.loader.specs.Checks.{Checks}
 use Rattle.loader.specs.Decisions.{boot_or}
 use Rattle.loader.specs.States.{staged, on_trial}
-use Rattle.loader.specs.declared.answers.Answer.TheVariants as A
+use Rattle.loader.specs.Answers as A
 use Rattle.runner.specs.Runs.{Outcome, run_for, run_of}
 use Rattle.power_loss.specs.RunEnds.{IsEnd, RunEnds}
 use Rattle.power_loss.proofs.Decided.{at_rest, boot_ends, at_ill_formed}
@@ -47,7 +46,7 @@ module _ (checks : Checks) (g : Geometry) (f : List ℕ) (bytes : Bytes f) (ok :
   swap_run : staged g f ≡ true → Within m top (run_for checks g m a b f)
   swap_run e = go (progress_of (flags g.count (trailer_of g f Update))) refl
     where
-      at : (p : ℕ) → progress_of (flags g.count (trailer_of g f Update)) ≡ P.At p → Going u p f
+      at : (p : ℕ) → progress_of (flags g.count (trailer_of g f Update)) ≡ Ok p → Going u p f
       at p q = record {
         base = base;
         is-staged = e;
@@ -55,9 +54,9 @@ module _ (checks : Checks) (g : Geometry) (f : List ℕ) (bytes : Bytes f) (ok :
         held = tt;
       }
 
-      go : (x : Progress) → progress_of (flags g.count (trailer_of g f Update)) ≡ x → Within m top (run_for checks g m a b f)
-      go (P.Refused n) q = stops checks g f a b (A.Refused n) (at_ill_formed checks g f ok a b e n q) tt m top
-      go (P.At p) q = by_end (dec_lt p (3 * g.count))
+      go : (x : Result ℕ ℕ) → progress_of (flags g.count (trailer_of g f Update)) ≡ x → Within m top (run_for checks g m a b f)
+      go (Err n) q = stops checks g f a b (A.Refused n) (at_ill_formed checks g f ok a b e n q) tt m top
+      go (Ok p) q = by_end (dec_lt p (3 * g.count))
         where
           by_end : Dec (p < 3 * g.count) → Within m top (run_for checks g m a b f)
           by_end (yes l) = within_more

@@ -18,8 +18,8 @@ use Rattle.slots.proofs.Exchanging.{exchange_step_at}
 use Rattle.loader.specs.Checks.{Checks}
 use Rattle.loader.specs.Decisions.{boot_or, next_step}
 use Rattle.loader.specs.States.{spent, on_trial}
-use Rattle.loader.specs.declared.answers.Answer.TheVariants as A
-use Rattle.loader.proofs.ByProgress.{why}
+use Rattle.loader.specs.Answers as A
+use Rattle.loader.specs.Decisions.{why}
 use Rattle.runner.specs.Runs.{meets, run_for}
 use Rattle.power_loss.proofs.Decided.{boot_ends, at_exchange, at_passed_over, finish-due, finish-last, finish-on}
 use Rattle.power_loss.proofs.Ends.{finishes, move_finishing, over}

@@ -9,7 +9,7 @@ use Rattle.flash.specs.declared.geometry.Geometry.{Geometry}
 use Rattle.slots.specs.Places.{image_of}
 use Rattle.slots.specs.declared.places.Slot.TheVariants.{Boot, Update}
 use Rattle.loader.specs.Checks.{Checks}
-use Rattle.loader.specs.declared.answers.Answer.TheVariants as A
+use Rattle.loader.specs.Answers as A
 use Rattle.runner.specs.Counts.{roomy}
 use Rattle.runner.specs.declared.counts.StepCounts.{StepCounts}
 use Rattle.power_loss.specs.Demand.{Safe}

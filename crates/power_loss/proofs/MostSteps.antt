@@ -15,8 +15,8 @@ use Rattle.flash.specs.Geometry.{geometry_check, counted}
 use Rattle.flash.specs.declared.geometry.Geometry.{Geometry}
 use Rattle.flash.proofs.Areas.{valid}
 use Rattle.loader.specs.Checks.{Checks}
-use Rattle.loader.specs.declared.answers.Answer.TheVariants as A
-use Rattle.loader.specs.declared.answers.Answer.{Answer}
+use Rattle.loader.specs.Answers as A
+use Rattle.loader.specs.Answers.{Answer}
 use Rattle.runner.specs.MostSteps.{step_bound, most_steps_of}
 use Rattle.runner.specs.Runs.{Outcome, ends, run_check, run_of}
 use Rattle.runner.specs.declared.counts.StepCounts.{StepCounts}

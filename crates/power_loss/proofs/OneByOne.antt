@@ -13,8 +13,8 @@ use Rattle.flash.specs.declared.geometry.Geometry.{Geometry}
 use Rattle.flash.specs.declared.steps.Step.{Step}
 use Rattle.loader.specs.Checks.{Checks}
 use Rattle.loader.specs.Decisions.{next_step}
-use Rattle.loader.specs.declared.answers.Answer.TheVariants as A
-use Rattle.loader.specs.declared.answers.Answer.{Answer}
+use Rattle.loader.specs.Answers as A
+use Rattle.loader.specs.Answers.{Answer}
 use Rattle.runner.specs.Counts.{counts_check}
 use Rattle.runner.specs.Runs.{Outcome, ends, did, turns, meets, run_for, run_check, run_of}
 use Rattle.power_loss.specs.OneByOne.{OneMore, OneByOne}

@@ -16,8 +16,8 @@ use Rattle.slots.specs.Places.{image_of}
 use Rattle.slots.specs.declared.places.Slot.TheVariants.{Update}
 use Rattle.loader.specs.Checks.{Checks}
 use Rattle.loader.specs.Decisions.{next_step}
-use Rattle.loader.specs.declared.answers.Answer.TheVariants as A
-use Rattle.loader.specs.declared.answers.Answer.{Answer}
+use Rattle.loader.specs.Answers as A
+use Rattle.loader.specs.Answers.{Answer}
 use Rattle.runner.specs.Runs.{Outcome}
 use Rattle.power_loss.specs.Demand.{GoesOn}
 use Rattle.power_loss.specs.Histories.{Event, cut_on, cut_between, finished_all}

@@ -22,7 +22,7 @@ use Rattle.slots.specs.Flags.{new, flags}
 use Rattle.slots.specs.Places.{offset, bytes_at, trailer_of}
 use Rattle.slots.specs.Renewed.{steps_left}
 use Rattle.slots.specs.Trailers.{sound_with, flag_count, renewed_to, all_but_state, renew, renewal_of}
-use Rattle.slots.specs.declared.answers.Work.TheVariants.{Due}
+use Rattle.std.specs.Prelude.{Some}
 use Rattle.slots.specs.declared.places.Place.TheVariants.{Sector}
 use Rattle.slots.specs.declared.places.Place.{Place}
 use Rattle.slots.specs.declared.places.Slot.TheVariants.{Boot, Update}
@@ -80,7 +80,7 @@ pub record After (g : Geometry) (s : Slot) (v : ℕ) (f f' : List ℕ) (left : W
   pub cost : (w : Weight) → renew_cost w g s v now ≤ left w
 
 pub record Renewal (g : Geometry) (s : Slot) (v : ℕ) (f : List ℕ) (d : Step) : Type 0 where
-  pub is-due : renewal_of g f s v ≡ Due d
+  pub is-due : renewal_of g f s v ≡ Some d
   pub left : Weight → ℕ
   pub less : (w : Weight) → weigh w d + left w ≤ renew_cost w g s v (trailer_of g f s)
   pub whole : After g s v f (applied g f d) left
@@ -132,10 +132,10 @@ module _ {g : Geometry} {o f : List ℕ} (b : Base g o f) (s : Slot) (v : ℕ) (
   stay : After g s v f f due
   stay = record { now = t; change = unchanged b p (omega arith); becomes = stays refl; cost = λ w. omega arith }
 
-  accept : (d : Step) → renewal_of g f s v ≡ Due d → accepted g d ≡ true
+  accept : (d : Step) → renewal_of g f s v ≡ Some d → accepted g d ≡ true
   accept d e = rw e at (renewal_accepted g f (base_valid b) s v)
 
-  stamp : all 0xFF t ≡ true → renewal_of g f s v ≡ Due (Byte (at + (z - 5)) v) → Renewal g s v f (Byte (at + (z - 5)) v)
+  stamp : all 0xFF t ≡ true → renewal_of g f s v ≡ Some (Byte (at + (z - 5)) v) → Renewal g s v f (Byte (at + (z - 5)) v)
   unfolding steps_left
   stamp e is = record {
     is-due = is;
@@ -165,7 +165,7 @@ module _ {g : Geometry} {o f : List ℕ} (b : Base g o f) (s : Slot) (v : ℕ) (
       cut f' (inl q) = rw q stay
       cut f' (inr q) = rw q (done due (λ w. omega (arith, costs w)))
 
-  mark : all 0xFF t ≡ false → all_but_state t v ≡ true → renewal_of g f s v ≡ Due (Mark (at + (z - 4))) → Renewal g s v f (Mark (at + (z - 4)))
+  mark : all 0xFF t ≡ false → all_but_state t v ≡ true → renewal_of g f s v ≡ Some (Mark (at + (z - 4))) → Renewal g s v f (Mark (at + (z - 4)))
   unfolding steps_left
   mark a e is = record {
     is-due = is;
@@ -193,7 +193,7 @@ module _ {g : Geometry} {o f : List ℕ} (b : Base g o f) (s : Slot) (v : ℕ) (
       cut f' (inl q) = rw q stay
       cut f' (inr q) = rw q (done due)
 
-  erase : all 0xFF t ≡ false → all_but_state t v ≡ false → renewal_of g f s v ≡ Due (Erase at) → Renewal g s v f (Erase at)
+  erase : all 0xFF t ≡ false → all_but_state t v ≡ false → renewal_of g f s v ≡ Some (Erase at) → Renewal g s v f (Erase at)
   unfolding steps_left
   erase a e is = record {
     is-due = is;

@@ -15,7 +15,7 @@ use Rattle.slots.specs.declared.places.Slot.TheVariants.{Boot, Update}
 use Rattle.loader.specs.Checks.{Checks}
 use Rattle.loader.specs.Decisions.{boot_or, next_step}
 use Rattle.loader.specs.States.{updating, testing, staged, on_trial}
-use Rattle.loader.specs.declared.answers.Answer.{Answer}
+use Rattle.loader.specs.Answers.{Answer}
 use Rattle.runner.specs.Runs.{Outcome, did, run_for}
 use Rattle.power_loss.specs.Histories.{finished_all, sum}
 use Rattle.power_loss.specs.RunEnds.{IsEnd}

@@ -14,8 +14,8 @@ use Rattle.flash.specs.declared.steps.Step.{Step}
 use Rattle.flash.proofs.Shown.{flash-after}
 use Rattle.loader.specs.Checks.{Checks}
 use Rattle.loader.specs.Decisions.{next_step}
-use Rattle.loader.specs.declared.answers.Answer.TheVariants as A
-use Rattle.loader.specs.declared.answers.Answer.{Answer}
+use Rattle.loader.specs.Answers as A
+use Rattle.loader.specs.Answers.{Answer}
 use Rattle.loader.proofs.Accepting.{steps-accepted}
 use Rattle.runner.specs.Counts.{roomy, counts_check}
 use Rattle.runner.specs.Runs.{Outcome, ends, did, meets, run_for, run_check, run_of}

@@ -18,8 +18,8 @@ use Rattle.slots.proofs.Exchanging.{source_at, target_at, exchange_step_at}
 use Rattle.loader.specs.Checks.{Checks}
 use Rattle.loader.specs.Decisions.{next_step}
 use Rattle.loader.specs.States.{updating, spent, testing, on_trial}
-use Rattle.loader.specs.declared.answers.Answer.TheVariants as A
-use Rattle.loader.proofs.ByProgress.{why}
+use Rattle.loader.specs.Answers as A
+use Rattle.loader.specs.Decisions.{why}
 use Rattle.runner.specs.Runs.{all_updated, Outcome, did, meets, run_for}
 use Rattle.power_loss.specs.Histories.{finished_all, sum}
 use Rattle.power_loss.proofs.Contents.{Contents, following, contents_new, contents_end}

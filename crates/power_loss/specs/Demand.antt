@@ -1,19 +1,18 @@
 -- Demand 3: however often the power is cut during an update and the return after it, nothing is lost. One claim about both lists.
-use Rattle.std.specs.Prelude.{ℕ, ◌+◌, ◌*◌, ◌≤◌, ◌<◌, Bool, true, List, ◌≡◌, length, get_or}
+use Rattle.std.specs.Prelude.{ℕ, ◌+◌, ◌*◌, ◌≤◌, ◌<◌, Bool, true, List, None, Ok, ◌≡◌, length, get_or}
 use Rattle.flash.specs.Changes.{InAreas}
 use Rattle.flash.specs.Cuts.{Bytes}
 use Rattle.flash.specs.declared.geometry.Geometry.{Geometry}
-use Rattle.header.specs.Checks.{version_of}
+use Rattle.header.specs.Checks.{version_in}
 use Rattle.slots.specs.Places.{bytes_at, image_of}
-use Rattle.slots.specs.declared.answers.Work.TheVariants.{Finished}
 use Rattle.slots.specs.declared.places.Place.TheVariants.{Sector}
 use Rattle.slots.specs.declared.places.Slot.TheVariants.{Boot, Update}
 use Rattle.slots.specs.declared.places.Slot.{Slot}
 use Rattle.loader.specs.Checks.{Checks, image_checks}
 use Rattle.loader.specs.Requests.{trigger_answer}
 use Rattle.loader.specs.States.{on_trial}
-use Rattle.loader.specs.declared.answers.Answer.TheVariants as A
-use Rattle.loader.specs.declared.answers.Answer.{Answer}
+use Rattle.loader.specs.Answers as A
+use Rattle.loader.specs.Answers.{Answer}
 use Rattle.runner.specs.Counts.{roomy}
 use Rattle.runner.specs.declared.counts.StepCounts.{StepCounts}
 use Rattle.power_loss.specs.Histories.{Event, begun, cuts}
@@ -49,7 +48,7 @@ module _ (checks : Checks) (sig : List ℕ → Bool) (g : Geometry) where
   pub record MayBegin (f : List ℕ) : Type 0 where
     pub bytes : Bytes f
     -- trigger says finished: so the geometry is accepted, and BOOT isn't on trial
-    pub finished : trigger_answer g f ≡ Finished
+    pub finished : trigger_answer g f ≡ Ok None
     -- both images pass, and UPDATE's may replace BOOT's
     pub passes : (s : Slot) → checks.verdict (image_of g f s) (sig (image_of g f s)) ≡ 0
     pub replaces : checks.acceptance (image_of g f Boot) (image_of g f Update) ≡ 0
@@ -97,9 +96,9 @@ DemandThree = (checks : Checks) (sig : List ℕ → Bool) (g : Geometry) (f : Li
 -- with the loader's own: both images pass verification, and UPDATE's version is the higher
 pub record Triggered (sig : List ℕ → Bool) (g : Geometry) (f : List ℕ) : Type 0 where
   pub bytes : Bytes f
-  pub finished : trigger_answer g f ≡ Finished
+  pub finished : trigger_answer g f ≡ Ok None
   pub passes : (s : Slot) → image_checks.verdict (image_of g f s) (sig (image_of g f s)) ≡ 0
-  pub higher : (version_of (image_of g f Boot)).version < (version_of (image_of g f Update)).version
+  pub higher : version_in (image_of g f Boot) < version_in (image_of g f Update)
 
 abbrev pub NothingIsLost : Type 0
 NothingIsLost = (sig : List ℕ → Bool) (g : Geometry) (f : List ℕ) → Triggered sig g f → Survives image_checks sig g f

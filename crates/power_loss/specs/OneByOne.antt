@@ -5,8 +5,8 @@ use Rattle.flash.specs.Steps.{flash_after}
 use Rattle.flash.specs.declared.geometry.Geometry.{Geometry}
 use Rattle.flash.specs.declared.steps.Step.{Step}
 use Rattle.loader.specs.Checks.{Checks}
-use Rattle.loader.specs.declared.answers.Answer.TheVariants as A
-use Rattle.loader.specs.declared.answers.Answer.{Answer}
+use Rattle.loader.specs.Answers as A
+use Rattle.loader.specs.Answers.{Answer}
 use Rattle.runner.specs.Runs.{Outcome, run_of}
 use Rattle.runner.specs.declared.counts.StepCounts.{StepCounts}
 

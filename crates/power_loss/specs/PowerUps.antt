@@ -10,8 +10,8 @@ use Rattle.slots.specs.declared.places.Slot.TheVariants.{Boot, Update}
 use Rattle.slots.specs.declared.places.Slot.{Slot}
 use Rattle.loader.specs.Checks.{Checks}
 use Rattle.loader.specs.MidSwap.{mid_swap}
-use Rattle.loader.specs.declared.answers.Answer.TheVariants as A
-use Rattle.loader.specs.declared.answers.Answer.{Answer}
+use Rattle.loader.specs.Answers as A
+use Rattle.loader.specs.Answers.{Answer}
 use Rattle.runner.specs.Counts.{roomy}
 use Rattle.runner.specs.Runs.{Outcome, run_of}
 use Rattle.runner.specs.declared.counts.StepCounts.{StepCounts}

@@ -4,8 +4,8 @@ use Rattle.std.specs.Prelude.{ℕ, ◌≤◌, Bool, List, length}
 use Rattle.flash.specs.Cuts.{Bytes}
 use Rattle.flash.specs.declared.geometry.Geometry.{Geometry}
 use Rattle.loader.specs.Checks.{Checks}
-use Rattle.loader.specs.declared.answers.Answer.TheVariants as A
-use Rattle.loader.specs.declared.answers.Answer.{Answer}
+use Rattle.loader.specs.Answers as A
+use Rattle.loader.specs.Answers.{Answer}
 use Rattle.runner.specs.MostSteps.{step_bound, most_steps_of}
 use Rattle.runner.specs.Runs.{run_of}
 use Rattle.runner.specs.declared.counts.StepCounts.{StepCounts}

@@ -15,6 +15,7 @@ use Rattle.header.specs.declared.tags.Tag.{Tag}
 use Rattle.image.specs.Verdict.{digest_of, digest_check, signature_check, verdict}
 use Rattle.writer.specs.Custom.{named, tags_of, well_formed, custom_check}
 use Rattle.writer.specs.Layout.{le_bytes, digest_to_sign, written}
+use Rattle.std.specs.Prelude.{Ok}
 use Rattle.writer.specs.Writer.{buffer_check, fields_check, write_check, buffer_after}
 use Rattle.writer.specs.declared.Fields.{Fields}
 use Rattle.header.proofs.Refusals.{first_one, zero_at}
@@ -122,7 +123,7 @@ module _ (fields : Fields) (firmware custom hint signature : List ℕ)
     unfolding verdict
     passes signed = last_one (header_check i) (digest_check i) (signature_check signed) header-passes digest-passes
 
-    version-is : fields.version < 2 ^ 32 → version_of i ≡ record { number = 0; version = fields.version }
+    version-is : fields.version < 2 ^ 32 → version_of i ≡ Ok fields.version
     unfolding version_of
     version-is l = rw (header-passes, reads.version-tag.shown, numbers_read 4 fields.version l)
 

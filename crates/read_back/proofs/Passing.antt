@@ -7,9 +7,8 @@ use mathlib.Core.Path.{◌≡◌, refl, sym, ap, ◌∙◌}
 use lib.Dec.{eqb}
 use borrow.Author.Tests.{not-true, eqb-true, ne_eqb}
 use Rattle.header.specs.Lookup.{first_in, of_kind}
-use Rattle.header.specs.declared.tags.Lookup.TheVariants.{Found}
+use Rattle.std.specs.Prelude.{Result, Ok, Some}
 use Rattle.header.specs.declared.tags.Tag.{Tag}
-use Rattle.header.specs.declared.tags.Wanted.TheVariants.{Kind}
 use Rattle.writer.specs.Custom.{named, well_formed}
 use Rattle.compare.proofs.Tests.{by_test, never, and_left, and_right}
 use Rattle.read_back.specs.ReadBack.{moved}
@@ -36,7 +35,7 @@ module _ (e p : ℕ) (t : Tag) (ts : List Tag) (w : well_formed e p (t ∷ ts) �
 -- a named type is looked up past the custom tags
 module _ (k : ℕ) (name : named k ≡ true) (e o : ℕ) (us : List Tag) where
   pub first_past :
-      (p : ℕ) (ts : List Tag) (n : ℕ) → well_formed e p ts ≡ true → first_in (Kind k) (map (moved o) ts ++ us) n ≡ first_in (Kind k) us n
+      (p : ℕ) (ts : List Tag) (n : ℕ) → well_formed e p ts ≡ true → first_in (Some k) (map (moved o) ts ++ us) n ≡ first_in (Some k) us n
   first_past p [] n w = refl
   first_past p (t ∷ ts) n w =
       rw (differ k t.kind name (head_custom e p t ts w)) (first_past t.next ts n (rest_whole e p t ts w))
@@ -54,13 +53,13 @@ module _ (k o : ℕ) (us : List Tag) where
   pub first_of_run :
       (ts : List Tag) (n : ℕ) (t : Tag) (vs : List Tag) →
       of_kind k ts ≡ t ∷ vs →
-      first_in (Kind k) (map (moved o) ts ++ us) n ≡ Found (moved o t)
+      first_in (Some k) (map (moved o) ts ++ us) n ≡ Ok (moved o t)
   first_of_run [] n t vs h = absurd (cons-ne-nil t vs (sym h))
   first_of_run (u ∷ ts) n t vs h =
       by_test
-      (λ (r : List Tag). r ≡ t ∷ vs → cond (eqb u.kind k) (Found (moved o u)) (first_in (Kind k) (map (moved o) ts ++ us) n) ≡ Found (moved o t))
+      (λ (r : List Tag). r ≡ t ∷ vs → ◌≡◌ {A = Result Tag ℕ} (cond (eqb u.kind k) (Ok (moved o u)) (first_in (Some k) (map (moved o) ts ++ us) n)) (Ok (moved o t)))
       (eqb u.kind k)
-      (λ b q. rw b (ap (λ (t : Tag). Found (moved o t)) (same_head q)))
+      (λ b q. rw b (ap (λ (t : Tag). Ok (moved o t)) (same_head q)))
       (λ b q. rw b (first_of_run ts n t vs q))
       h
 

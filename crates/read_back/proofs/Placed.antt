@@ -10,9 +10,8 @@ use lib.Seq.{drop_at, take_at}
 use Rattle.header.specs.Lookup.{first, first_in, lookup, content_of, before_tag, covered_of}
 use Rattle.header.specs.Numbers.{number_at}
 use Rattle.header.specs.Walk.{walk}
-use Rattle.header.specs.declared.tags.Lookup.TheVariants.{Found}
+use Rattle.std.specs.Prelude.{Ok, Some}
 use Rattle.header.specs.declared.tags.Tag.{Tag}
-use Rattle.header.specs.declared.tags.Wanted.TheVariants.{Kind}
 use Rattle.writer.specs.Custom.{named, tags_of}
 use Rattle.writer.specs.Layout.{le_bytes, tag_bytes, covered_part}
 use Rattle.writer.specs.declared.Fields.{Fields}
@@ -20,8 +19,8 @@ use Rattle.header.proofs.Lookups.{long_enough}
 use Rattle.header.proofs.Shown.{stays}
 use Rattle.header.proofs.Walk.{stopped}
 use Rattle.writer.proofs.Accepted.{Custom}
-use Rattle.writer.proofs.Stores.{length-le, tag-length}
-use Rattle.writer.proofs.Whole.{covered-length}
+use Rattle.writer.proofs.Stores.{length-le, tag_length}
+use Rattle.writer.proofs.Whole.{covered_length}
 use Rattle.read_back.specs.ReadBack.{tag_of, moved, written_tags, Reads, HeaderReads}
 use Rattle.read_back.proofs.Passing.{differ', first_past, first_of_run, custom_kind}
 use Rattle.read_back.proofs.Standing.{rest_at, number_at_lem, prefixed, small_type, Laid, laid, padding-walked, run-walked, content_in}
@@ -42,7 +41,7 @@ module _ (fields : Fields) (firmware custom hint digest signature : List ℕ) wh
     pub header-length : length header ≡ 256
     header-length =
         let r = run.size in
-        simp (length-append, tag-length, length-replicate, covered-length fields firmware custom hint hl) (omega arith)
+        simp (length-append, tag_length, length-replicate, covered_length fields firmware custom hint hl) (omega arith)
 
     -- what stands from each piece's place on
     abbrev padding-on : List ℕ
@@ -132,17 +131,17 @@ module _ (fields : Fields) (firmware custom hint digest signature : List ℕ) wh
           ∙ rw (length-le, timestamp_laid.walked, length-le, type_laid.walked, length-le)
           (rw (run-walked i 34 custom hint_on type_laid.after (let r = run.size in omega arith) run.whole, last-walked))
 
-      looked_up : (k : ℕ) → lookup i k ≡ first_in (Kind k) (written_tags custom) 25
-      looked_up k = long_enough i k long ∙ ap (first (Kind k)) walked
+      looked_up : (k : ℕ) → lookup i k ≡ first_in (Some k) (written_tags custom) 25
+      looked_up k = long_enough i k long ∙ ap (first (Some k)) walked
 
       -- a named type that stands behind the run
-      past_run : (k : ℕ) → named k ≡ true → first_in (Kind k) (map (moved 34) (tags_of custom) ++ last_tags (length custom)) 25 ≡ first_in (Kind k) (last_tags (length custom)) 25
+      past_run : (k : ℕ) → named k ≡ true → first_in (Some k) (map (moved 34) (tags_of custom) ++ last_tags (length custom)) 25 ≡ first_in (Some k) (last_tags (length custom)) 25
       past_run k m = first_past k m (length custom) 34 (last_tags (length custom)) 0 (tags_of custom) 25 run.whole
 
-      reads : {p q k : ℕ} {c rest : List ℕ} → Laid i 256 p q k c rest → lookup i k ≡ Found (tag_of k p (length c)) → Reads i k p c
+      reads : {p q k : ℕ} {c rest : List ℕ} → Laid i 256 p q k c rest → lookup i k ≡ Ok (tag_of k p (length c)) → Reads i k p c
       reads l e = record { found = e; shown = ap (content_of i) e ∙ l.content }
 
-      digest-found : lookup i 0x0003 ≡ Found (tag_of 0x0003 (70 + length custom) 32)
+      digest-found : lookup i 0x0003 ≡ Ok (tag_of 0x0003 (70 + length custom) 32)
       digest-found = looked_up 0x0003 ∙ past_run 0x0003 refl
 
       pub header_reads : HeaderReads fields custom hint digest signature i
@@ -169,4 +168,4 @@ module _ (fields : Fields) (firmware custom hint digest signature : List ℕ) wh
           let c : List ℕ = covered_part fields firmware custom hint in
           ap (before_tag i) digest-found
           ∙ rw (e, is, append_assoc, append_assoc, append_assoc)
-          (take_at c _ (70 + length custom) (covered-length fields firmware custom hint hl))
+          (take_at c _ (70 + length custom) (covered_length fields firmware custom hint hl))

@@ -21,7 +21,7 @@ use Rattle.header.proofs.Numbers.{low_byte}
 use Rattle.header.proofs.Walk.{Good, walk_ind}
 use Rattle.writer.proofs.Accepted.{custom_accepted}
 use Rattle.writer.proofs.Run.{well_formed_from, gap, at_end}
-use Rattle.writer.proofs.Stores.{tag-length}
+use Rattle.writer.proofs.Stores.{tag_length}
 use Rattle.read_back.specs.Runs as R
 use Rattle.read_back.specs.Runs.{Entry, Allowed, AllAllowed, encode, Made, Runs}
 use Rattle.read_back.proofs.Passing.{head_custom, rest_whole}
@@ -47,7 +47,7 @@ encoded s p (x ∷ es) (R.one ok a) e n =
     rw l.walked (simp (eq-eqb (p + 4) (p + 4) refl, ok.unnamed) (encoded s q es a l.after m))
   where
     sum : (c : List ℕ) → p + length (tag_bytes x.kind c ++ encode es) ≡ p + 4 + length c + length (encode es)
-    sum c = rw (length-append, tag-length) (omega arith)
+    sum c = rw (length-append, tag_length) (omega arith)
 
 -- bytes that are read as a number are that number's bytes
 bytes_of : (s : List ℕ) → ((p : ℕ) → byte_at s p < 256) → (n p : ℕ) → p + n ≤ length s → le_bytes n (number_at n s p) ≡ take n (drop p s)

@@ -14,6 +14,7 @@ use borrow.Author.Tests.{eqb-true}
 use Rattle.header.specs.Numbers.{byte_at, number_at}
 use Rattle.header.specs.Walk.{tag_at, step_at, Walk, on_step, walk}
 use Rattle.header.specs.declared.tags.Tag.{Tag}
+use Rattle.std.specs.Prelude.{Ok}
 use Rattle.header.specs.declared.tags.WalkStep.TheVariants.{Met}
 use Rattle.writer.specs.Custom.{named, tags_of, well_formed}
 use Rattle.writer.specs.Layout.{le_bytes, tag_bytes}
@@ -83,7 +84,7 @@ laid i e p q k c rest b s n fits ok =
     let kind : number_at 2 i p ≡ k = number_at_lem 2 i p k _ ok.fits type-bytes in
     let size : number_at 2 i (p + 2) ≡ length c = number_at_lem 2 i (p + 2) (length c) _ s length-bytes in
     let low : byte_at i p ≡ k % 256 = low_byte i p k _ type-bytes in
-    let step : step_at i e p ≡ Met (tag_at i p) =
+    let step : step_at i e p ≡ Ok (Met (tag_at i p)) =
     step_met i e p (omega arith) (λ f. ok.unpadded (sym low ∙ f)) (λ z. ok.typed (sym kind ∙ z)) in
     record {
       walked = walk_step i e p ∙ ap (on_step (walk i e)) step ∙ rw (kind, size, n);
@@ -115,7 +116,7 @@ module _ (i : List ℕ) (o : ℕ) (s rest : List ℕ) (stands : drop o i ≡ s +
       let m : o + q + 1 ≡ o + (q + 1) = omega arith in
       rw (m, byte_in q (omega arith), number_in n (q + 1) (omega arith))
 
-  step_in : (p : ℕ) (t : Tag) → Good s (length s) p t → t.at ≡ p + 4 → step_at i 256 (o + p) ≡ Met (moved o t)
+  step_in : (p : ℕ) (t : Tag) → Good s (length s) p t → t.at ≡ p + 4 → step_at i 256 (o + p) ≡ Ok (Met (moved o t))
   step_in p t g a =
       let place : t.at - 4 ≡ p = omega arith in
       let is : t ≡ tag_at s p = rw place at g.is in
@@ -129,7 +130,7 @@ module _ (i : List ℕ) (o : ℕ) (s rest : List ℕ) (stands : drop o i ≡ s +
       let low : byte_at i (o + p) ≡ byte_at s p = byte_in p (omega (arith, g.inside)) in
       step_met i 256 (o + p) (omega (arith, g.inside)) (λ f. g.unpadded (rw place (sym low ∙ f)))
       (λ z. g.typed (ap (λ (t : Tag). t.kind) is ∙ sym kind ∙ z))
-      ∙ ap Met (tag ∙ ap (moved o) (sym is))
+      ∙ ap (λ (t : Tag). Ok (Met t)) (tag ∙ ap (moved o) (sym is))
 
   pub run-walked :
       well_formed (length s) 0 (tags_of s) ≡ true → walk i 256 o ≡ prefixed (map (moved o) (tags_of s)) (walk i 256 (o + length s))

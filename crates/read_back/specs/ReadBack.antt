@@ -1,12 +1,11 @@
 -- What the writer wrote reads back: the claim, over the definitions that the code is held to. Proved in proofs/Claim.antt.
-use Rattle.std.specs.Prelude.{ℕ, ◌+◌, ◌^◌, ◌<◌, Bool, cond, ◌≡◌, length, take, drop}
+use Rattle.std.specs.Prelude.{ℕ, ◌+◌, ◌^◌, ◌<◌, Bool, cond, Ok, ◌≡◌, length, take, drop}
 use mathlib.Core.List.{List, [], ◌∷◌, ◌++◌, map, Memᴰ}
 use Rattle.header.specs.Checks.{version_of}
 use Rattle.header.specs.Lookup.{lookup, view_of, of_kind}
 use Rattle.header.specs.Numbers.{number_at}
 use Rattle.header.specs.Types.{version_type, timestamp_type, digest_type, hint_type, signature_type, firmware_type_type}
 use Rattle.header.specs.Walk.{header_walk}
-use Rattle.header.specs.declared.tags.Lookup.TheVariants.{Found}
 use Rattle.header.specs.declared.tags.Tag.{Tag}
 use Rattle.image.specs.Verdict.{verdict}
 use Rattle.writer.specs.Custom.{tags_of}
@@ -37,7 +36,7 @@ content_at i t = take t.len (drop t.at i)
 
 -- in the bytes i type k is found at place p, and its view is c
 pub record Reads (i : List ℕ) (k p : ℕ) (c : List ℕ) : Type 0 where
-  pub found : lookup i k ≡ Found (tag_of k p (length c))
+  pub found : lookup i k ≡ Ok (tag_of k p (length c))
   pub shown : view_of i k ≡ c
 
 -- what is read in the bytes i, which start with a header that was written
@@ -51,7 +50,7 @@ pub record HeaderReads (fields : Fields) (custom hint digest signature i : List 
   pub signature_tag_lem : Reads i signature_type (106 + length custom) signature
   -- every custom tag has its content, and is found where it is the first of its type
   pub custom_content : (t : Tag) → Memᴰ t (tags_of custom) → content_at i (moved 34 t) ≡ content_at custom t
-  pub custom_found : (t : Tag) (ts : List Tag) → of_kind t.kind (tags_of custom) ≡ t ∷ ts → lookup i t.kind ≡ Found (moved 34 t)
+  pub custom_found : (t : Tag) (ts : List Tag) → of_kind t.kind (tags_of custom) ≡ t ∷ ts → lookup i t.kind ≡ Ok (moved 34 t)
 
 -- a number's bytes are that number
 abbrev pub NumbersRead : Type 0
@@ -61,7 +60,7 @@ NumbersRead = (n x : ℕ) → x < 256 ^ n → number_at n (le_bytes n x) 0 ≡ x
 pub record ImageReads (fields : Fields) (firmware custom hint digest signature h : List ℕ) : Type 0 where
   pub header : HeaderReads fields custom hint digest signature h
   pub image : HeaderReads fields custom hint digest signature (h ++ firmware)
-  pub version : fields.version < 2 ^ 32 → version_of (h ++ firmware) ≡ record { number = 0; version = fields.version }
+  pub version : fields.version < 2 ^ 32 → version_of (h ++ firmware) ≡ Ok fields.version
   pub verdict-is : (signed : Bool) → verdict (h ++ firmware) signed ≡ cond signed 0 18
 
 -- Whatever the buffer held: where the writer's second call does not refuse, what it left there is read back.

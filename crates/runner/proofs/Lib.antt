@@ -1,3 +1,4 @@
 pub mod Rooms
 pub mod Turns
-pub mod Standings
+pub mod Running
+pub mod OneStep

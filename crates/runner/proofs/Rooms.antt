@@ -1,16 +1,19 @@
 -- The room of the counters. Assumes nothing.
 use Prim.Native.Nat.{ℕ, ◌-◌, ◌≤◌, ◌<◌}
-use mathlib.Core.Bool.{Bool, true, false, cond, ◌&&◌}
+use mathlib.Core.Bool.{Bool, true, false, ◌&&◌}
 use mathlib.Core.Path.{◌≡◌, refl, sym, ◌∙◌}
 use native.Mathlib.Omega.{arith}
 use borrow.Author.Rules.{rules}
 use borrow.Author.Tests.{leb-true, eq-eqb}
 use lib.Dec.{eqb, leb}
 use Rattle.compare.proofs.Tests.{never, and_left, and_right}
-use Rattle.flash.specs.Geometry.{unless}
+use Rattle.flash.specs.Geometry.{unless, geometry_check}
+use Rattle.flash.specs.declared.geometry.Geometry.{Geometry}
 use Rattle.flash.specs.declared.steps.Step.{Step}
 use Rattle.flash.specs.declared.steps.Step.TheVariants.{Erase, Copy, Byte, Mark}
-use Rattle.runner.specs.Counts.{with_step, roomy, counts_check, counts_after, RoomFor}
+use Rattle.refusal.specs.Numbers.{number}
+use Rattle.runner.specs.Runs.{run_check}
+use Rattle.runner.specs.Counts.{with_step, roomy, counts_check, RoomFor}
 use Rattle.runner.specs.declared.counts.StepCounts.{StepCounts}
 
 abbrev most : ℕ
@@ -37,22 +40,23 @@ room_less c n (Copy from to) h r = search rules
 room_less c n (Byte at v) h r = search rules
 room_less c n (Mark at) h r = search rules
 
-pub room_fewer : (c : StepCounts) (m n : ℕ) → m ≤ n → RoomFor c n → RoomFor c m
-room_fewer c m n h r = search rules
-
--- what adding one step comes to, by its refusal
-pub added : (c : StepCounts) (s : Step) → counts_check c ≡ 0 → RoomFor c 1 × (with_step c s ≡ counts_after c s)
-unfolding counts_check counts_after
-added c s = go (roomy c) refl
+-- a record that is not refused has room for a step
+pub room_to_add : (c : StepCounts) → 0 ≡ counts_check c → RoomFor c 1
+unfolding counts_check
+room_to_add c = go (roomy c) refl
   where
-    go : (b : Bool) → roomy c ≡ b → unless b 28 0 ≡ 0 → RoomFor c 1 × (with_step c s ≡ cond b (with_step c s) c)
-    go true p e = (roomy_for c 1 p (omega arith), refl)
+    go : (b : Bool) → roomy c ≡ b → 0 ≡ unless b 28 0 → RoomFor c 1
+    go true p e = roomy_for c 1 p (omega arith)
     go false p e = absurd (omega arith)
 
-pub not_added : (c : StepCounts) (s : Step) → eqb (counts_check c) 0 ≡ false → c ≡ counts_after c s
-unfolding counts_check counts_after
-not_added c s = go (roomy c)
+-- a run that is not refused has room for its steps
+pub run_room : (g : Geometry) (len number : ℕ) (c : StepCounts) → 0 ≡ run_check g len number c → RoomFor c number
+unfolding run_check counts_check
+run_room g len number c = go (eqb (geometry_check g len) 0) (leb number 4096) (roomy c) refl refl refl
   where
-    go : (b : Bool) → eqb (unless b 28 0) 0 ≡ false → c ≡ cond b (with_step c s) c
-    go true e = never (sym (eq-eqb 0 0 refl) ∙ e)
-    go false e = refl
+    go : (x y z : Bool) → eqb (geometry_check g len) 0 ≡ x → leb number 4096 ≡ y → roomy c ≡ z
+        → 0 ≡ unless x (geometry_check g len) (unless y 29 (unless z 28 0)) → RoomFor c number
+    go true true true p q r e = roomy_for c number r (leb-true number 4096 q)
+    go true true false p q r e = absurd (omega arith)
+    go true false z p q r e = absurd (omega arith)
+    go false y z p q r e = never (sym (eq-eqb (geometry_check g len) 0 (sym e)) ∙ p)

@@ -9,8 +9,8 @@ use Rattle.flash.specs.declared.geometry.Geometry.{Geometry}
 use Rattle.flash.specs.declared.steps.Step.{Step}
 use Rattle.loader.specs.Checks.{Checks}
 use Rattle.loader.specs.Decisions.{next_step}
-use Rattle.loader.specs.declared.answers.Answer.{Answer}
-use Rattle.loader.specs.declared.answers.Answer.TheVariants as A
+use Rattle.loader.specs.Answers.{Answer}
+use Rattle.loader.specs.Answers as A
 use Rattle.runner.specs.Runs.{after_answer, turns, ends, did, meets, run_for}
 
 module _ (checks : Checks) (g : Geometry) (n : ℕ) (a b : Bool) (f : List ℕ) {x : Answer} (e : x ≡ next_step checks g f a b) where

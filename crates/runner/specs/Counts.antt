@@ -1,4 +1,4 @@
--- Document 01, "The next step": the record of finished steps, one counter per kind (the paper's word for it is a tally).
+-- Document 01, "The next step": the record of finished steps, one counter per kind (the paper's word is a tally).
 use Rattle.std.specs.Prelude.{ℕ, ◌+◌, ◌^◌, ◌<◌, Bool, cond, ◌&&◌, List, [], ◌∷◌, leb}
 use Rattle.flash.specs.Geometry.{unless}
 use Rattle.flash.specs.declared.steps.Step.{Step}

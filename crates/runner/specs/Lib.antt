@@ -1,4 +1,3 @@
 pub mod Counts
 pub mod Runs
 pub mod MostSteps
-pub mod Standings

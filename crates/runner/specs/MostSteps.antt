@@ -1,5 +1,5 @@
--- A bound on the steps of a run, by the number of image sectors. That no run does more, that a run takes this number and that with it it
--- always ends, is claimed in power_loss (`RunEnds`).
+-- A bound on the steps of a run, by the number of image sectors. That no run does more, that a run takes this number
+-- and that with it it always ends, is claimed in power_loss (`RunEnds`).
 use Rattle.std.specs.Prelude.{ℕ, ◌+◌, ◌*◌, cond}
 use Rattle.flash.specs.Geometry.{counted}
 

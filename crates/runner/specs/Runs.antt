@@ -1,5 +1,5 @@
--- Document 01, "The next step", from "A run decides" on: one step decided and done, and the bounded run. a and b are the signature
--- checker's answers for BOOT and UPDATE.
+-- Document 01, "The next step", from "A run decides" on: one step decided and done, and the bounded run. a and b are
+-- the signature checker's answers for BOOT and UPDATE.
 use Rattle.std.specs.Prelude.{ℕ, zero, suc, Bool, false, cond, not, ◌&&◌, List, [], ◌∷◌, ◌≡◌, eqb, leb, length}
 use Rattle.compare.specs.Compare.{all}
 use Rattle.flash.specs.Geometry.{unless, geometry_check}
@@ -12,8 +12,8 @@ use Rattle.slots.specs.declared.places.Slot.TheVariants.{Update}
 use Rattle.loader.specs.Checks.{Checks}
 use Rattle.loader.specs.Decisions.{next_step}
 use Rattle.loader.specs.States.{staged}
-use Rattle.loader.specs.declared.answers.Answer.{Answer}
-use Rattle.loader.specs.declared.answers.Answer.TheVariants as A
+use Rattle.loader.specs.Answers.{Answer}
+use Rattle.loader.specs.Answers as A
 use Rattle.runner.specs.Counts.{with_steps, counts_check}
 use Rattle.runner.specs.declared.counts.StepCounts.{StepCounts}
 
@@ -51,8 +51,8 @@ did s o = record { answer = o.answer; flash = o.flash; steps = s ∷ o.steps }
 abbrev pub Rest : Type 0
 Rest = Bool → Bool → List ℕ → Outcome
 
--- an answer met with a step left: the step is done, and the answers of the checker change places when it makes the last flag 0; after a
--- last step boot at once, with no reason
+-- an answer met with a step left: the step is done, and the answers of the checker change places when it makes the
+-- last flag 0; after a last step boot at once, with no reason
 unfoldable pub meets : Geometry → Rest → Bool → Bool → List ℕ → Answer → Outcome
 meets g more a b f (A.Step s) =
     let t : Bool = turns g f (A.Step s) in did s (more (cond t b a) (cond t a b) (flash_after g f s))

@@ -1,11 +1,16 @@
 // The record of finished steps, one counter per kind.
 ghost use Rattle.std.specs.Prelude.{◌≡◌};
+ghost use Rattle.refusal.specs.Numbers.{number_or_zero};
 ghost use Rattle.runner.specs.Counts.{with_step, roomy, counts_check, RoomFor};
 
 use flash::Step;
+use refusal::Refusal;
+
+// A counter up to this has room for the 4096 steps of a run.
+const MOST_COUNT: u32 = 4_294_963_199;
 
 #[repr(C)]
-#[derive(Clone, Copy)]
+#[derive(Clone, Copy, Debug, PartialEq, Eq)]
 pub struct StepCounts {
     pub erases: u32,
     pub copies: u32,
@@ -13,34 +18,34 @@ pub struct StepCounts {
     pub marks: u32,
 }
 
-// Whether no counter is above 4,294,963,199.
-pub(crate) fn is_roomy(counts: StepCounts) -> bool
+#[tactic(auto, unfolding(crate::specs::Counts::roomy))]
+fn is_roomy(counts: StepCounts) -> bool
     ensures { result ≡ roomy counts }
 {
-    (counts.erases <= 4294963199)
-        & (counts.copies <= 4294963199)
-        & (counts.bytes <= 4294963199)
-        & (counts.marks <= 4294963199)
+    [counts.erases, counts.copies, counts.bytes, counts.marks]
+        .iter()
+        .all(|count| *count <= MOST_COUNT)
 }
 
-// 28 where a counter is above 4,294,963,199, or 0.
-pub(crate) fn check_counts(counts: StepCounts) -> u32
-    ensures { result ≡ counts_check counts }
+#[tactic(auto, unfolding(crate::specs::Counts::counts_check))]
+pub(crate) fn check_counts(counts: StepCounts) -> Result<(), Refusal>
+    ensures { number_or_zero result ≡ counts_check counts }
 {
-    if is_roomy(counts) { 0 } else { 28 }
-}
-
-// One finished step more.
-pub(crate) fn with_step(counts: StepCounts, step: Step) -> StepCounts
-    requires { RoomFor counts 1 }
-    ensures { result ≡ with_step counts step }
-{
-    let mut more = counts;
-    match step {
-        Step::Erase(_) => more.erases = counts.erases + 1,
-        Step::Copy(_, _) => more.copies = counts.copies + 1,
-        Step::Byte(_, _) => more.bytes = counts.bytes + 1,
-        Step::Mark(_) => more.marks = counts.marks + 1,
+    if !is_roomy(counts) {
+        return Err(Refusal::Counters);
     }
-    more
+    Ok(())
+}
+
+// One finished step more in the caller's record: the one thin function by which the run and `add_step` add.
+pub(crate) fn count_step(counts: &mut StepCounts, step: Step)
+    requires { RoomFor counts.old 1 }
+    ensures { counts.new ≡ with_step counts.old step }
+{
+    match step {
+        Step::Erase(_) => counts.erases += 1,
+        Step::Copy(_, _) => counts.copies += 1,
+        Step::Byte(_, _) => counts.bytes += 1,
+        Step::Mark(_) => counts.marks += 1,
+    }
 }

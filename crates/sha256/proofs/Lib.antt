@@ -1,5 +1,6 @@
 pub mod Recurrence
 pub mod Rounds
+pub mod Sums
 pub mod Padding
 pub mod Parsing
 pub mod Answers

@@ -1,16 +1,17 @@
 -- What stands at each byte of a padded message, and how many blocks it has.
 -- Assumes nothing.
-use Rattle.std.proofs.Common.{◌≡◌, ℕ, zero, suc, ◌+◌, ◌-◌, ◌*◌, ◌/◌, ◌%◌, ◌^◌, ◌<◌, ◌≤◌, List, [], ◌∷◌, ◌++◌, length, get_or, replicate, sym, ap, ◌∙◌, arith, length-append, get_or-append-add}
+use Rattle.std.proofs.Common.{◌≡◌, ℕ, ◌+◌, ◌-◌, ◌*◌, ◌/◌, ◌<◌, ◌≤◌, List, [], ◌∷◌, ◌++◌, length, get_or, replicate, sym, ap, ◌∙◌, arith, length-append, get_or-append-add}
 use lib.ListN.{length-replicate, get_or-replicate, get_or-append}
+use Rattle.std.proofs.Math.Nat.{div-one}
+use Rattle.std.specs.Int.{to_be_bytes, w64}
 use Rattle.sha256.specs.Message.{bytes, zeros, padding, pad_to, pad, N, PaddingRule}
 
 pub append_at : (xs ys : List ℕ) (i : ℕ) → length xs ≤ i → get_or (xs ++ ys) i 0 ≡ get_or ys (i - length xs) 0
 append_at xs ys i h = ap (λ (k : ℕ). get_or (xs ++ ys) k 0) (omega arith) ∙ get_or-append-add xs ys (i - length xs) 0
 
-bytes_at : (k x j : ℕ) → j < k → get_or (bytes k x) j 0 ≡ x / 2 ^ (8 * (k - 1 - j)) % 256
-bytes_at zero x j h = omega arith
-bytes_at (suc k) x zero h = ap (λ (n : ℕ). x / 2 ^ (8 * n) % 256) (omega arith)
-bytes_at (suc k) x (suc j) h = bytes_at k x j (omega arith) ∙ ap (λ (n : ℕ). x / 2 ^ (8 * n) % 256) (omega arith)
+-- the library's bytes of a number are those of FIPS
+big_endian : (x : ℕ) → bytes 8 x ≡ to_be_bytes w64 x
+big_endian x = rw (div-one x)
 
 length-padding : (n : ℕ) → length (padding n) ≡ zeros n + 9
 unfolding padding
@@ -40,12 +41,12 @@ module _ (n k : ℕ) where
   gap h l =
       sym (behind h ∙ get_or-append (replicate (zeros n) 0) (bytes 8 (8 * n)) 0 (k - 1) (rw length-replicate (omega arith)) ∙ get_or-replicate (zeros n) (k - 1) 0 0 (omega arith))
 
-  pub count : zeros n < k → k < zeros n + 9 → 8 * n / 2 ^ (8 * (zeros n + 8 - k)) % 256 ≡ get_or (padding n) k 0
-  count h l =
+  pub count : zeros n < k → get_or (to_be_bytes w64 (8 * n)) (k - zeros n - 1) 0 ≡ get_or (padding n) k 0
+  count h =
       let z : List ℕ = replicate (zeros n) 0 in
-      let x : List ℕ = bytes 8 (8 * n) in
-      let e : get_or (z ++ x) (k - 1) 0 ≡ get_or x (k - 1 - zeros n) 0 = rw length-replicate at (append_at z x (k - 1) (rw length-replicate (omega arith))) in
-      sym (behind (omega arith) ∙ e ∙ bytes_at 8 (8 * n) (k - 1 - zeros n) (omega arith) ∙ ap (λ (j : ℕ). 8 * n / 2 ^ (8 * j) % 256) (omega arith))
+      let at : get_or (z ++ bytes 8 (8 * n)) (k - 1) 0 ≡ get_or (bytes 8 (8 * n)) (k - zeros n - 1) 0 =
+      rw length-replicate at (append_at z (bytes 8 (8 * n)) (k - 1) (rw length-replicate (omega arith))) ∙ ap (λ (j : ℕ). get_or (bytes 8 (8 * n)) j 0) (omega arith) in
+      sym (behind (omega arith) ∙ at ∙ ap (λ (b : List ℕ). get_or b (k - zeros n - 1) 0) (big_endian (8 * n)))
 
 -- byte i of two pieces and a padding
 module _ (a b : List ℕ) (n i : ℕ) where

@@ -1,13 +1,12 @@
 -- The ring of sixteen words holds what the schedule's next word is made of, and a turn of the code is a round of FIPS.
 -- Assumes nothing.
-use Rattle.std.proofs.Common.{◌≡◌, ℕ, zero, suc, ◌+◌, ◌-◌, ◌%◌, ◌<◌, ◌≤◌, max, List, length, get_or, set, sym, refl, ap, ◌∙◌, mod-eq_of_lt, arith, length-set, get_or-set_other, get_or-set_same, le-ltb, lt-ltb}
+use Rattle.std.proofs.Common.{◌≡◌, ℕ, zero, suc, ◌+◌, ◌-◌, ◌%◌, ◌<◌, ◌≤◌, max, List, length, get_or, set, sym, refl, ◌∙◌, mod-eq_of_lt, arith, length-set, get_or-set_other, get_or-set_same, le-ltb, lt-ltb}
 use native.Mathlib.Decide.{ℕ_discrete, dec_lt}
 use Rattle.sha256.specs.Constants.{K}
-use Rattle.sha256.specs.Ring.{four_from, ring_word, Turned, Holds, Turns, FipsWords, SixteenWords}
+use Rattle.sha256.specs.Ring.{ring_word, Turned, Holds, Turns, FipsWords, SixteenWords}
 use Rattle.sha256.specs.Rounds.{rounds, plus, compress}
 use Rattle.sha256.specs.Schedule.{W}
 use Rattle.sha256.specs.declared.hash.Hash.{Hash}
-use Rattle.sha256.specs.declared.schedule.Four.{Four}
 use Rattle.sha256.proofs.Recurrence.{recurrence}
 
 ring_start : (m : List ℕ) → Holds m 0 m
@@ -45,7 +44,7 @@ unfolding rounds
 none m h l = record { sixteen = l; words = ring_start m; state = refl }
 
 module _ {m : List ℕ} {h : Hash} where
-  one_more : {t k : ℕ} {w w' : List ℕ} {s s' : Hash} (t' : ℕ) → t' ≡ suc t → Done m h t w s → k ≡ K t → Turned k t w s w' s' → Done m h t' w' s'
+  pub one_more : {t k : ℕ} {w w' : List ℕ} {s s' : Hash} (t' : ℕ) → t' ≡ suc t → Done m h t w s → k ≡ K t → Turned k t w s w' s' → Done m h t' w' s'
   unfolding rounds
   one_more {t} {w = w} t' n d k=K e =
       let x : ring_word w t ≡ W m t = ring_word_lem m w t d.words in
@@ -54,15 +53,6 @@ module _ {m : List ℕ} {h : Hash} where
         words = rw (n, e.0, x) (ring_next m w t d.words _ (omega arith) d.sixteen);
         state = rw n (cc d.state);
       }
-
-  pub four_more : {t : ℕ} {k : Four} {w w₁ w₂ w₃ w₄ : List ℕ} {s s₁ s₂ s₃ s₄ : Hash} (t' : ℕ) → t' ≡ t + 4 → Done m h t w s → k ≡ four_from t
-      → Turned k.0 t w s w₁ s₁ → Turned k.1 (t + 1) w₁ s₁ w₂ s₂ → Turned k.2 (t + 2) w₂ s₂ w₃ s₃ → Turned k.3 (t + 3) w₃ s₃ w₄ s₄
-      → Done m h t' w₄ s₄
-  four_more {t} t' n d e e₀ e₁ e₂ e₃ =
-      let d₁ = one_more (t + 1) (omega arith) d (ap (λ (k : Four). k.0) e) e₀ in
-      let d₂ = one_more (t + 2) (omega arith) d₁ (ap (λ (k : Four). k.1) e) e₁ in
-      let d₃ = one_more (t + 3) (omega arith) d₂ (ap (λ (k : Four). k.2) e) e₂ in
-      one_more t' (omega arith) d₃ (ap (λ (k : Four). k.3) e) e₃
 
   pub all : {t : ℕ} {w : List ℕ} {s r : Hash} → t ≡ 64 → Done m h t w s → r ≡ plus s h → r ≡ compress m h
   unfolding compress

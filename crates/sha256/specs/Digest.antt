@@ -1,9 +1,8 @@
 -- FIPS 180-4, 6.2: the digest of a message; and document 01's answer for a lent one.
-use Rattle.std.specs.Prelude.{◌≡◌, ℕ, zero, suc, ◌+◌, ◌*◌, ◌/◌, cond, List, ◌++◌, length, replicate, nat_le}
+use Rattle.std.specs.Prelude.{◌≡◌, ℕ, zero, suc, ◌+◌, ◌*◌, ◌/◌, cond, List, ◌++◌, length, nat_le, Result, Ok, Err}
 use Rattle.sha256.specs.Constants.{initial}
 use Rattle.sha256.specs.Message.{bytes, pad_to, pad, N, M}
 use Rattle.sha256.specs.Rounds.{compress}
-use Rattle.sha256.specs.declared.DigestAnswer.{DigestAnswer}
 use Rattle.sha256.specs.declared.hash.Hash.{Hash}
 
 -- 6.2.2: the hash value after the first i blocks of p, from the hash value s
@@ -27,25 +26,19 @@ longest = 4294967295
 abbrev pub longest_of_all : ℕ
 longest_of_all = 2305843009213693951
 
-abbrev pub given : List ℕ → DigestAnswer
-given d = record { number = 0; bytes = d }
+-- what a digest of the message m answers, where the message may have `most` bytes: the digest, or a refusal's number
+unfoldable pub answer_up_to : ℕ → List ℕ → Result (List ℕ) ℕ
+answer_up_to most m = cond (nat_le (length m) most) (Ok (digest m)) (Err 12)
 
-abbrev pub refused : DigestAnswer
-refused = record { number = 12; bytes = replicate 32 0 }
-
--- what a digest of the message m answers, where the message may have `most` bytes
-unfoldable pub answer_up_to : ℕ → List ℕ → DigestAnswer
-answer_up_to most m = cond (nat_le (length m) most) (given (digest m)) refused
-
-abbrev pub answer : List ℕ → DigestAnswer
+abbrev pub answer : List ℕ → Result (List ℕ) ℕ
 answer m = answer_up_to longest m
 
 -- the same where k blocks before m have already led to the hash value s
-unfoldable pub after_up_to : ℕ → Hash → ℕ → List ℕ → DigestAnswer
+unfoldable pub after_up_to : ℕ → Hash → ℕ → List ℕ → Result (List ℕ) ℕ
 after_up_to most s k m =
-    cond (nat_le (64 * k + length m) most) (given (to_bytes (hashed s (pad_to (64 * k + length m) m) (N (length m))))) refused
+    cond (nat_le (64 * k + length m) most) (Ok (to_bytes (hashed s (pad_to (64 * k + length m) m) (N (length m))))) (Err 12)
 
-abbrev pub answer_after : Hash → ℕ → List ℕ → DigestAnswer
+abbrev pub answer_after : Hash → ℕ → List ℕ → Result (List ℕ) ℕ
 answer_after s k m = after_up_to longest s k m
 
 -- The hash value after the k whole blocks p is all that the rest of a message needs of them. Proved in proofs/Pieces.antt.

@@ -1,16 +1,11 @@
--- The code's own, in no promise to a caller: constants handed out four at a time, and the schedule in a ring of sixteen words,
--- in which word j stands at j % 16; and R-3's claim about that ring.
+-- The code's own, in no promise to a caller: the schedule in a ring of sixteen words, in which word j stands at j % 16; and R-3's claim
+-- about that ring.
 use Rattle.std.specs.Prelude.{◌≡◌, ℕ, suc, ◌+◌, ◌%◌, ◌^◌, ◌<◌, ◌≤◌, max, cond, List, length, nat_lt, slice_index, slice_set}
 use Rattle.sha256.specs.Constants.{K}
 use Rattle.sha256.specs.Rounds.{round}
 use Rattle.sha256.specs.Schedule.{W}
 use Rattle.sha256.specs.Words.{σ₀, σ₁}
 use Rattle.sha256.specs.declared.hash.Hash.{Hash}
-use Rattle.sha256.specs.declared.schedule.Four.{Four}
-
--- the constants of the four rounds from t on, as the code hands them out
-abbrev pub four_from : ℕ → Four
-four_from t = record { 0 = K t; 1 = K (t + 1); 2 = K (t + 2); 3 = K (t + 3) }
 
 -- word t, from the ring w of the words before it
 unfoldable pub ring_word : List ℕ → ℕ → ℕ

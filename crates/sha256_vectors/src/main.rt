@@ -2,80 +2,51 @@
 // a line each, held to the file stdout, which tests/vectors/sha256.py makes with another implementation.
 #![tactic(auto)]
 
-ghost use Rattle.std.specs.Prelude.{◌≡◌, ◌≤◌, length};
-
 use sha256::Hash;
-use std::io;
+use std::{array, io};
 
-fn name(rt: &impl Print, text: &str) -> io::Result<()> {
-    print!(rt; "{text} ")
-}
-
-fn published(rt: &impl Print) -> io::Result<()> {
-    name(rt, "empty")?;
-    show::digest(rt, sha256::digest(b""))?;
-    name(rt, "abc")?;
-    show::digest(rt, sha256::digest(b"abc"))?;
-    name(rt, "448-bit")?;
-    show::digest(
-        rt,
-        sha256::digest(b"abcdbcdecdefdefgefghfghighijhijkijkljklmklmnlmnomnopnopq"),
-    )?;
-    name(rt, "896-bit")?;
-    show::digest(
-        rt,
-        sha256::digest(
-            b"abcdefghbcdefghicdefghijdefghijkefghijklfghijklmghijklmnhijklmnoijklmnopjklmnopqklmnopqrlmnopqrsmnopqrstnopqrstu",
-        ),
-    )
-}
+const PUBLISHED: [(&str, &[u8]); 4] = [
+    ("empty", b""),
+    ("abc", b"abc"),
+    (
+        "448-bit",
+        b"abcdbcdecdefdefgefghfghighijhijkijkljklmklmnlmnomnopnopq",
+    ),
+    (
+        "896-bit",
+        b"abcdefghbcdefghicdefghijdefghijkefghijklfghijklmghijklmnhijklmnoijklmnopjklmnopqklmnopqrlmnopqrsmnopqrstnopqrstu",
+    ),
+];
 
 // One million "a", 125 blocks at a time.
 fn million(rt: &impl Print) -> io::Result<()> {
-    let a = [97u8; 8000];
+    let a = [b'a'; 8000];
     let mut hash = Hash::new();
-    let mut left: usize = 125;
-    while left > 0 {
+    for _ in 0..125 {
         hash = hash.blocks(&a);
-        left -= 1;
     }
-    show::digest(rt, sha256::digest_after(hash, 15625, &a[..0]))
+    print!(rt; "million ")?;
+    show::digest(rt, sha256::digest_after(hash, 15625, b""))
 }
 
-fn pattern() -> [u8; 200]
-    ensures { length result ≡ 200 }
-{
-    let mut a = [0u8; 200];
-    for i in 0..200 {
-        a[i] = ((7 * i + 3) % 256) as u8;
-    }
-    a
-}
-
-fn part(s: &[u8], a: usize, e: usize) -> &[u8]
-    requires { (a ≤ e) × (e ≤ length s.now) }
-{
-    &s[a..e]
-}
-
-// The first n bytes of the pattern, whole and cut at a third.
-fn length_line(rt: &impl Print, a: &[u8], n: usize) -> io::Result<()>
-    requires { n ≤ length a.now }
-{
-    print!(rt; "{n} ")?;
-    show::digest(rt, sha256::digest(part(a, 0, n)))?;
-    let cut = n / 3;
-    print!(rt; "{cut}+{} ", n - cut)?;
-    show::digest(rt, sha256::digest_of_two(part(a, 0, cut), part(a, cut, n)))
+// A message whole and cut at a third.
+fn length_lines(rt: &impl Print, message: &[u8]) -> io::Result<()> {
+    print!(rt; "{} ", message.len())?;
+    show::digest(rt, sha256::digest(message))?;
+    let (front, back) = message.split_at(message.len() / 3);
+    print!(rt; "{}+{} ", front.len(), back.len())?;
+    show::digest(rt, sha256::digest_of_two(front, back))
 }
 
 fn main(rt: HostRuntime) -> io::Result<()> {
-    published(&rt)?;
-    name(&rt, "million")?;
+    for (name, message) in PUBLISHED {
+        print!(rt; "{name} ")?;
+        show::digest(&rt, sha256::digest(message))?;
+    }
     million(&rt)?;
-    let a = pattern();
-    for n in 0..201 {
-        length_line(&rt, &a, n)?;
+    let pattern: [u8; 200] = array::from_fn(|i| ((7 * i + 3) % 256) as u8);
+    for n in 0..=pattern.len() {
+        length_lines(&rt, &pattern[..n])?;
     }
     Ok(())
 }

@@ -3,7 +3,7 @@ use Rattle.std.specs.Prelude.{ℕ, ◌≤◌, ◌≡◌, Bool, cond, ◌&&◌, L
 use Rattle.board_records.specs.Boards.{geometry_in, boot_signed, update_signed}
 use Rattle.flash.specs.declared.geometry.Geometry.{Geometry}
 use Rattle.loader.specs.Checks.{image_checks}
-use Rattle.loader.specs.declared.answers.Answer.TheVariants as A
+use Rattle.loader.specs.Answers as A
 use Rattle.runner.specs.Runs.{Outcome, ends, run_for}
 
 -- a run with the number 4096; 5 where the record isn't whole or the flash is too long

@@ -3,17 +3,18 @@
 #![tactic(auto)]
 
 ghost use Rattle.std.specs.Prelude.{IfOk, OnErr};
+ghost use Rattle.loader.specs.Answers.{numbered_answer};
 ghost use Rattle.loader.specs.Checks.{image_checks};
 ghost use Rattle.runner.specs.Runs.{run_for, EndsWith};
 ghost use Rattle.simulator.specs.Input.{simulated, IsCutShort, IsSimulationCutShort};
 
-use board_records::{boot_signed, geometry, update_signed};
+use board_records::{geometry, signed};
 use files::read_full;
 use flash::Geometry;
 use header::version_of;
-use loader::{Answer, next_step};
-use runner::{advance, pick};
-use show::{decimal, refusal};
+use loader::{Answer, Signed, next_step};
+use refusal::Refusal;
+use runner::advance;
 use slots::Slot;
 use std::io;
 
@@ -26,72 +27,59 @@ fn show_run(
     rt: &impl Print,
     flash: &mut [u8],
     g: Geometry,
-    boot_signed: bool,
-    update_signed: bool,
+    signed: Signed,
     number: u32,
-) -> io::Result<Answer>
+) -> io::Result<Result<Answer, Refusal>>
     ensures whole { IfOk result (λ answer.
-        EndsWith (run_for image_checks g number boot_signed update_signed flash.old) answer flash.new) }
-    ensures cut { OnErr result (IsCutShort g boot_signed update_signed number flash.old flash.new) }
+        EndsWith (run_for image_checks g number signed.boot signed.update flash.old) (numbered_answer answer) flash.new) }
+    ensures cut { OnErr result (IsCutShort g signed.boot signed.update number flash.old flash.new) }
 {
-    let mut left = number;
-    let mut a = boot_signed;
-    let mut b = update_signed;
-    while 0 < left {
-        let done = advance(flash, g, a, b);
-        let answer = done.answer;
-        match answer {
-            Answer::Step(step) => {
-                show_steps::step(rt, step)?;
-                let turned = done.turned;
-                let next = pick(turned, b, a);
-                b = pick(turned, a, b);
-                a = next;
-                left -= 1;
+    let mut signed = signed;
+    for _ in 0..number {
+        let done = advance(flash, g, signed);
+        match done.answer {
+            Ok(Answer::Step(step)) => {
+                println!(rt; "{step}")?;
+                signed = signed.turned(done.turned);
             }
-            Answer::LastStep(step) => {
-                show_steps::step(rt, step)?;
-                return Ok(Answer::Boot(0));
+            Ok(Answer::LastStep(step)) => {
+                println!(rt; "{step}")?;
+                return Ok(Ok(Answer::Boot(None)));
             }
-            Answer::Boot(_) => return Ok(answer),
-            Answer::Refused(_) => return Ok(answer),
+            boot @ Ok(Answer::Boot(_)) => return Ok(boot),
+            refused @ Err(_) => return Ok(refused),
         }
     }
-    Ok(next_step(flash, g, a, b))
+    Ok(next_step(flash, g, signed))
 }
 
-// The run on the input as it was read; 5 where the record is not whole or the flash is too long.
-fn simulate(rt: &impl Print, record: &[u8], flash: &mut [u8]) -> io::Result<Answer>
-    ensures whole { IfOk result (λ answer. EndsWith (simulated «record».now flash.old) answer flash.new) }
+// The run on the input as it was read; refused where the record is not whole or the flash is too long.
+#[tactic(auto, unfolding(crate::specs::Input::simulated))]
+fn simulate(rt: &impl Print, record: &[u8], flash: &mut [u8]) -> io::Result<Result<Answer, Refusal>>
+    ensures whole { IfOk result (λ answer.
+        EndsWith (simulated «record».now flash.old) (numbered_answer answer) flash.new) }
     ensures cut { OnErr result (IsSimulationCutShort «record».now flash.old flash.new) }
 {
-    if record.len() < RECORD {
-        return Ok(Answer::Refused(5));
+    if record.len() < RECORD || flash.len() > MOST_FLASH {
+        return Ok(Err(Refusal::Input));
     }
-    if MOST_FLASH < flash.len() {
-        return Ok(Answer::Refused(5));
-    }
-    show_run(
-        rt,
-        flash,
-        geometry(record),
-        boot_signed(record),
-        update_signed(record),
-        4096,
-    )
-}
-
-fn show_boot(rt: &impl Print, image: &[u8]) -> io::Result<()> {
-    print!(rt; "BOOT ")?;
-    decimal(rt, version_of(image).version as u64)
+    show_run(rt, flash, geometry(record), signed(record), 4096)
 }
 
 // A run with the number 4096 never ends with a step due, so nothing is printed for one.
-fn show_end(rt: &impl Print, flash: &[u8], g: Geometry, end: Answer) -> io::Result<()> {
+fn show_end(
+    rt: &impl Print,
+    flash: &[u8],
+    g: Geometry,
+    end: Result<Answer, Refusal>,
+) -> io::Result<()> {
     match end {
-        Answer::Boot(_) => show_boot(rt, slots::image(flash, g, Slot::Boot)),
-        Answer::Refused(number) => refusal(rt, number),
-        _ => Ok(()),
+        Ok(Answer::Boot(_)) => {
+            let version = version_of(slots::image(flash, g, Slot::Boot)).unwrap_or(0);
+            println!(rt; "BOOT {version}")
+        }
+        Ok(Answer::Step(_) | Answer::LastStep(_)) => Ok(()),
+        Err(refusal) => println!(rt; "{refusal}"),
     }
 }
 

@@ -6,6 +6,7 @@ use mathlib.Core.Logic.{inl, inr, ◌≢◌}
 use mathlib.Core.Path.{◌≡◌, refl}
 use native.Mathlib.Omega.{arith}
 use borrow.Author.Tests.{ltb-true}
+use Rattle.std.specs.Prelude.{Option, Some, None}
 use lib.Dec.{ltb}
 use lib.ListN.{length, get_or}
 use Rattle.compare.specs.Compare.{same, all}
@@ -13,14 +14,13 @@ use Rattle.compare.proofs.Tests.{by_test}
 use Rattle.flash.specs.Steps.{accepted}
 use Rattle.flash.specs.Valid.{Apart, Valid}
 use Rattle.flash.specs.declared.geometry.Geometry.{Geometry}
+use Rattle.flash.specs.declared.steps.Step.{Step}
 use Rattle.flash.specs.declared.steps.Step.TheVariants.{Byte}
 use Rattle.slots.specs.AtPlaces.{PlacesAccepted}
 use Rattle.slots.specs.Exchange.{source, target, next_flag, exchange_step, exchange_of}
 use Rattle.slots.specs.Flags.{with_half, flag_at, flag_of, flag_step, flag_step_of}
 use Rattle.slots.specs.Places.{offset, Within, bytes_at, trailer_of}
 use Rattle.slots.specs.Trailers.{state_at, flag_count, renewed_to, all_but_state, renew, renewal_of}
-use Rattle.slots.specs.declared.answers.Work.{Work}
-use Rattle.slots.specs.declared.answers.Work.TheVariants.{Due, Finished, Refused}
 use Rattle.slots.specs.declared.places.Place.TheVariants.{Sector}
 use Rattle.slots.specs.declared.places.Slot.{Slot}
 use Rattle.slots.specs.declared.places.Slot.TheVariants.{Update}
@@ -28,11 +28,10 @@ use Rattle.slots.proofs.Accepting.{accepts}
 use Rattle.slots.proofs.Apart.{offset-apart, length_at}
 use Rattle.slots.proofs.Exchanging.{copy_in, copy_apart}
 
--- the step that some work has due is accepted
-abbrev pub DueAccepted : Geometry → Work → Type 0
-DueAccepted g (Due d) = accepted g d ≡ true
-DueAccepted g Finished = Unit {0}
-DueAccepted g (Refused n) = Unit {0}
+-- the step that is due, if one is, is accepted
+abbrev pub DueAccepted : Geometry → Option Step → Type 0
+DueAccepted g (Some d) = accepted g d ≡ true
+DueAccepted g None = Unit {0}
 
 module _ (g : Geometry) (f : List ℕ) (v : Valid g (length f)) where
   allowed : PlacesAccepted g

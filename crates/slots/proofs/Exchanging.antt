@@ -6,13 +6,13 @@ use mathlib.Core.Logic.{◌≢◌}
 use mathlib.Core.Path.{◌≡◌}
 use native.Mathlib.Omega.{arith}
 use borrow.Author.Tests.{lt-ltb, le-ltb}
+use Rattle.std.specs.Prelude.{Some, None}
 use lib.Dec.{eqb}
 use Rattle.flash.specs.declared.geometry.Geometry.{Geometry}
 use Rattle.flash.specs.declared.steps.Step.{Step}
 use Rattle.slots.specs.Exchange.{source, target, exchange_step, exchange_of}
 use Rattle.slots.specs.Flags.{new, swapping, flag_of}
 use Rattle.slots.specs.Places.{Within}
-use Rattle.slots.specs.declared.answers.Work.TheVariants.{Due, Finished}
 use Rattle.slots.specs.declared.places.Place.{Place}
 use Rattle.slots.specs.declared.places.Place.TheVariants.{Sector, Swap}
 use Rattle.slots.specs.declared.places.Slot.TheVariants.{Boot, Update}
@@ -49,10 +49,10 @@ pub copy_apart : (i v : ℕ) → source i v ≢ target i v
 copy_apart i v = by_copy (λ s t. s ≢ t) i v (λ e. never_same (cc)) (λ e. never_same (cc)) (λ e. never_same (cc))
 
 -- a step is due until all sectors are finished
-pub exchange_due : (g : Geometry) (f : List ℕ) (p : ℕ) → p < 3 * g.count → exchange_of g f p ≡ Due (exchange_step_at g f p)
+pub exchange_due : (g : Geometry) (f : List ℕ) (p : ℕ) → p < 3 * g.count → exchange_of g f p ≡ Some (exchange_step_at g f p)
 unfolding exchange_of
 exchange_due g f p h = rw (lt-ltb p (3 * g.count) h)
 
-pub exchange_finished : (g : Geometry) (f : List ℕ) (p : ℕ) → 3 * g.count ≤ p → exchange_of g f p ≡ Finished
+pub exchange_finished : (g : Geometry) (f : List ℕ) (p : ℕ) → 3 * g.count ≤ p → exchange_of g f p ≡ None
 unfolding exchange_of
 exchange_finished g f p h = rw (le-ltb p (3 * g.count) h)

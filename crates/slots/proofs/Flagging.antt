@@ -1,4 +1,5 @@
--- A flag written: the other half of its byte and every other flag stay, and the progress goes one further. Assumes nothing.
+-- A flag written: the other half of its byte and every other flag stay, and the progress goes one further. Assumes
+-- nothing.
 use Prim.Native.Nat.{ℕ, ◌+◌, ◌-◌, ◌*◌, ◌/◌, ◌%◌, ◌≤◌, ◌<◌}
 use mathlib.Core.Bool.{Bool, true, false, cond}
 use mathlib.Core.List.{List, [], ◌∷◌}
@@ -8,6 +9,7 @@ use native.Mathlib.Decide.{ℕ_discrete}
 use native.Mathlib.Nat.{div-add-mod'}
 use native.Mathlib.Omega.{arith}
 use borrow.Author.Tests.{eqb-true, eqb-false, ltb-true}
+use Rattle.std.specs.Prelude.{Some, None}
 use lib.Arith.{digits_div, digits_mod}
 use lib.Bits.{bit_and, and_self, and_block, and_le_r}
 use lib.Dec.{eqb, ltb}
@@ -28,7 +30,6 @@ use Rattle.slots.specs.FlagWritten.{Flagged, FlagWritten, NextFlag}
 use Rattle.slots.specs.Flags.{new, swapping, backup, half, with_half, flag_at, flag, flags, flag_of, flag_step, flag_step_of}
 use Rattle.slots.specs.Places.{trailer_of}
 use Rattle.slots.specs.Trailers.{state}
-use Rattle.slots.specs.declared.answers.Work.TheVariants.{Due, Finished}
 use Rattle.slots.specs.declared.places.Place.TheVariants.{Sector}
 use Rattle.slots.specs.declared.places.Slot.TheVariants.{Update}
 use Rattle.slots.proofs.Apart.{length_at, sectors}
@@ -176,11 +177,11 @@ module _ (g : Geometry) (f : List ℕ) (p : ℕ) where
   abbrev due : Step
   due = flag_step_of g f (p / 3) (next_flag (flag_of p))
 
-  is-due : (s : Step) → next_flag_of g f p ≡ Due s → (p < 3 * g.count) × (s ≡ due)
+  is-due : (s : Step) → next_flag_of g f p ≡ Some s → (p < 3 * g.count) × (s ≡ due)
   unfolding next_flag_of
   is-due s e = go (ltb p (3 * g.count)) refl e
     where
-      go : (b : Bool) → ltb p (3 * g.count) ≡ b → cond b (Due due) Finished ≡ Due s → (p < 3 * g.count) × (s ≡ due)
+      go : (b : Bool) → ltb p (3 * g.count) ≡ b → cond b (Some due) None ≡ Some s → (p < 3 * g.count) × (s ≡ due)
       go true q r = (ltb-true p (3 * g.count) q, cc)
       go false q r = absurd (let z : ◌≡◌ {A = ℕ} 0 1 = cc in omega arith)
 

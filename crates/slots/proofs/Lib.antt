@@ -1,6 +1,7 @@
+pub mod Boards
 pub mod Sectors
 pub mod Reading
-pub mod Pairs
+pub mod Runs
 pub mod Renewals
 pub mod Exchanging
 pub mod Corresponding
@@ -11,4 +12,3 @@ pub mod Renewing
 pub mod Accepting
 pub mod DueAccepted
 pub mod RenewalSteps
-pub mod Answered

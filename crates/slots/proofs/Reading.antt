@@ -1,19 +1,21 @@
 -- The flags read one after the other, and the progress from them. Assumes nothing.
 use Prim.Native.Nat.{ℕ, zero, suc, ◌+◌, ◌*◌, ◌≤◌, ◌<◌}
-use mathlib.Core.Bool.{Bool, true, false, cond, ◌&&◌, ◌||◌}
+use mathlib.Core.Bool.{Bool, cond}
 use mathlib.Core.List.{List, [], ◌∷◌}
 use mathlib.Core.Logic.{◌≢◌}
-use mathlib.Core.Path.{◌≡◌, refl, sym, ap, ◌∙◌}
+use mathlib.Core.Path.{◌≡◌, refl, sym, ap}
+use native.Mathlib.Nat.{add-zero}
 use native.Mathlib.Numerals.{add-one}
 use native.Mathlib.Omega.{arith}
-use borrow.Author.Tests.{eq-eqb, ne_eqb}
-use lib.Dec.{eqb}
+use borrow.Author.Tests.{ne_eqb}
 use lib.ListN.{length, drop, get_or, drop_of_length-le}
 use lib.Seq.{drop-cons}
+use Rattle.std.specs.Prelude.{Result, Ok, Err}
 use Rattle.compare.specs.Compare.{all}
-use Rattle.compare.proofs.Values.{all_stop, all_go, all_end}
-use Rattle.slots.specs.Flags.{flag, tab, flags, well_formed, stage, progress, progress_of, lowest_unfinished, progress_at, new, swapping, backup}
-use Rattle.slots.specs.declared.answers.Progress.TheVariants.{At, Refused}
+use Rattle.slots.specs.FlagKinds.{value}
+use Rattle.slots.specs.Flags.{flag, tab, flags, well_formed, stage, progress, progress_of, progress_at, new}
+use Rattle.slots.specs.declared.flags.Flag.{Flag}
+use Rattle.slots.specs.declared.flags.Flag.TheVariants.{New, Swapping, Backup, Updated}
 
 length-tab : (n : ℕ) (h : ℕ → ℕ) → length (tab n h) ≡ n
 unfolding tab
@@ -35,108 +37,53 @@ module _ (n : ℕ) (t : List ℕ) where
   unfolding flags
   get_or-flags i h = get_or-tab n (flag t) i h
 
--- ---- the finished sectors
+  drop-flags : (i : ℕ) → i < n → drop i (flags n t) ≡ flag t i ∷ drop (i + 1) (flags n t)
+  drop-flags i h = rw (drop-cons (flags n t) i 0 (rw length-flags h), get_or-flags i h, add-one)
 
-module _ (i : ℕ) (fs : List ℕ) {P : ℕ} (inv : i + lowest_unfinished (drop i fs) ≡ P) where
-  cons : i < length fs → i + cond (eqb (get_or fs i 0) 0) (suc (lowest_unfinished (drop (i + 1) fs))) 0 ≡ P
-  unfolding lowest_unfinished
-  cons h = rw add-one (rw (drop-cons fs i 0 h) at inv)
+  no-flags-left : (i : ℕ) → n ≤ i → drop i (flags n t) ≡ []
+  no-flags-left i h = drop_of_length-le (flags n t) (rw length-flags h)
 
-  pub finished_go : i < length fs → get_or fs i 0 ≡ 0 → i + 1 + lowest_unfinished (drop (i + 1) fs) ≡ P
-  finished_go h e = let k = rw (eq-eqb (get_or fs i 0) 0 e) at (cons h) in omega arith
+-- ---- the flags from the first on: those of so many finished sectors, then the rest
 
-  pub finished_stop : i < length fs → get_or fs i 0 ≢ 0 → i ≡ P
-  finished_stop h n = let k = rw (ne_eqb (get_or fs i 0) 0 n) at (cons h) in omega arith
+pub record Finished (fs : List ℕ) (i : ℕ) : Type 0 where
+  pub formed : well_formed fs ≡ well_formed (drop i fs)
+  pub reached : progress fs ≡ 3 * i + progress (drop i fs)
 
-  pub finished_end : length fs ≤ i → i ≡ P
-  unfolding lowest_unfinished
-  finished_end h = let k = rw (drop_of_length-le fs h) at inv in omega arith
+module _ (n i : ℕ) (t : List ℕ) (p : Finished (flags n t) i) where
+  module _ (h : i < n) {x : ℕ} (e : x ≡ flag t i) where
+    this : drop i (flags n t) ≡ x ∷ drop (i + 1) (flags n t)
+    this = rw (drop-flags n t i h, e)
 
--- ---- the progress by the finished sectors and the current one's flag
-
-pub all_finished : (fs : List ℕ) → lowest_unfinished fs ≡ length fs → (well_formed fs ≡ true) × (progress fs ≡ 3 * length fs)
-unfolding lowest_unfinished well_formed progress
-all_finished [] e = (refl, refl)
-all_finished (x ∷ xs) e = go (eqb x 0) refl e (all_finished xs)
-  where
-    go : (b : Bool) → eqb x 0 ≡ b → cond b (suc (lowest_unfinished xs)) 0 ≡ suc (length xs)
-        → (lowest_unfinished xs ≡ length xs → (well_formed xs ≡ true) × (progress xs ≡ 3 * length xs))
-        → (cond b (well_formed xs) ((eqb x 7 || eqb x 3 || eqb x 15) && all 15 xs) ≡ true) × (cond b (3 + progress xs) (stage x) ≡ 3 * suc (length xs))
-    go true t h ih = let k = ih (omega arith) in (k.0, omega (arith, k.1))
-    go false t h ih = absurd (omega arith)
-
--- sector i is the current one: what its flag and the rest say
-pub record Current (fs : List ℕ) (i : ℕ) : Type 0 where
-  pub formed : well_formed fs ≡ ((eqb (get_or fs i 0) 7 || eqb (get_or fs i 0) 3 || eqb (get_or fs i 0) 15) && all 15 (drop (suc i) fs))
-  pub reached : progress fs ≡ 3 * i + stage (get_or fs i 0)
-
-pub current : (fs : List ℕ) → lowest_unfinished fs < length fs → Current fs (lowest_unfinished fs)
-unfolding lowest_unfinished well_formed progress
-current [] h = absurd (omega arith)
-current (x ∷ xs) h = go (eqb x 0) refl h (current xs)
-  where
-    go : (b : Bool) → eqb x 0 ≡ b → cond b (suc (lowest_unfinished xs)) 0 < suc (length xs)
-        → (lowest_unfinished xs < length xs → Current xs (lowest_unfinished xs)) → Current (x ∷ xs) (cond b (suc (lowest_unfinished xs)) 0)
-    go true t h ih = let k = ih (omega arith) in record {
-      formed = simp t k.formed;
-      reached = simp t (omega (arith, k.reached));
+    pub finished_go : x ≡ 0 → Finished (flags n t) (i + 1)
+    unfolding well_formed progress
+    finished_go z = record {
+      formed = rw (this, z) at p.formed;
+      reached = let r = rw (this, z) at p.reached in omega arith;
     }
-    go false t h ih = record { formed = simp t; reached = simp t (omega arith) }
 
--- ---- a flag that the code read
+    -- where its flag isn't 0
+    pub current_is : x ≢ 0 → progress_of (flags n t) ≡ progress_at i x (all new (drop (i + 1) (flags n t)))
+    unfolding well_formed progress progress_of progress_at
+    current_is z = let a = ne_eqb x 0 z in rw (rw (this, a) at p.formed, rw (this, a) at p.reached)
 
-module _ (n i : ℕ) (t : List ℕ) {x : ℕ} (h : i < n) (e : x ≡ flag t i) where
-  pub is-flag : get_or (flags n t) i 0 ≡ x
-  is-flag = get_or-flags n t i h ∙ sym e
+  pub all_finished : n ≤ i → progress_of (flags n t) ≡ Ok (3 * i)
+  unfolding well_formed progress progress_of
+  all_finished h = let e = no-flags-left n t i h in rw (rw e at p.formed, rw e at p.reached, add-zero)
 
-  in_flags : i < length (flags n t)
-  in_flags = rw (length-flags n t) h
+-- ---- a flag as it was read
 
-  pub rest_stop : (v : ℕ) {P : Bool} → all v (drop i (flags n t)) ≡ P → x ≢ v → false ≡ P
-  rest_stop v inv d = all_stop v i (flags n t) inv in_flags (λ q. d (sym is-flag ∙ q))
-
-  pub rest_go : (v : ℕ) {P : Bool} → all v (drop i (flags n t)) ≡ P → x ≡ v → all v (drop (i + 1) (flags n t)) ≡ P
-  rest_go v inv d = all_go v i (flags n t) inv in_flags (is-flag ∙ d)
-
-  pub zeros_go : {P : ℕ} → i + lowest_unfinished (drop i (flags n t)) ≡ P → x ≡ 0 → i + 1 + lowest_unfinished (drop (i + 1) (flags n t)) ≡ P
-  zeros_go inv d = finished_go i (flags n t) inv in_flags (is-flag ∙ d)
-
-  pub zeros_stop : {P : ℕ} → i + lowest_unfinished (drop i (flags n t)) ≡ P → x ≢ 0 → i ≡ P
-  zeros_stop inv d = finished_stop i (flags n t) inv in_flags (λ q. d (sym is-flag ∙ q))
-
-module _ (n i : ℕ) (t : List ℕ) (h : n ≤ i) where
-  past : length (flags n t) ≤ i
-  past = rw (length-flags n t) h
-
-  pub rest_end : (v : ℕ) {P : Bool} → all v (drop i (flags n t)) ≡ P → true ≡ P
-  rest_end v inv = all_end v i (flags n t) inv past
-
-  pub zeros_end : {P : ℕ} → i + lowest_unfinished (drop i (flags n t)) ≡ P → i ≡ P
-  zeros_end inv = finished_end i (flags n t) inv past
-
--- ---- the progress that the code answers
-
-pub progress_done : (n i : ℕ) (t : List ℕ) → n ≤ i → i ≤ n → i + lowest_unfinished (drop i (flags n t)) ≡ lowest_unfinished (flags n t)
-    → At (3 * n) ≡ progress_of (flags n t)
-unfolding progress_of
-progress_done n i t h k e =
-    let q : i ≡ n = omega arith in
-    let f = all_finished (flags n t) (sym (zeros_end n i t h e) ∙ q ∙ sym (length-flags n t)) in
-    rw (f.0, f.1, length-flags n t)
-
--- sector i is the first whose flag isn't 0
-pub progress-current : (n i : ℕ) (t : List ℕ) {x : ℕ} → i < n → x ≡ flag t i → i + lowest_unfinished (drop i (flags n t)) ≡ lowest_unfinished (flags n t)
-    → x ≢ 0 → progress_at i x (all new (drop (i + 1) (flags n t))) ≡ progress_of (flags n t)
-unfolding progress_of progress_at
-progress-current n i t {x} h d e z =
-    let first : i ≡ lowest_unfinished (flags n t) = zeros_stop n i t h d e z in
-    let c : Current (flags n t) i = rw (← first) at (current (flags n t) (rw (length-flags n t, ← first) h)) in
-    rw (c.formed, c.reached, is-flag n i t h d, add-one i)
-
-and_false : (b : Bool) → (b && false) ≡ false
-and_false true = refl
-and_false false = refl
-
-pub not_new : (v i : ℕ) → Refused 20 ≡ progress_at i v false
+pub flag_counts : (f : Flag) (i : ℕ) (rest : Bool) → value f ≢ 0 → progress_at i (value f) rest ≡ cond {A = Result ℕ ℕ} rest (Ok (3 * i + stage (value f))) (Err 20)
 unfolding progress_at
-not_new v i = rw (and_false (eqb v swapping || eqb v backup || eqb v new))
+flag_counts New i rest z = refl
+flag_counts Swapping i rest z = refl
+flag_counts Backup i rest z = refl
+flag_counts Updated i rest z = absurd (z refl)
+
+-- what stands there is no flag
+pub none_counts : (x i : ℕ) (rest : Bool) → ((f : Flag) → value f ≢ x) → progress_at i x rest ≡ Err 20
+unfolding progress_at
+none_counts x i rest n =
+    let a : x ≢ 15 = λ e. n New (sym e) in
+    let b : x ≢ 7 = λ e. n Swapping (sym e) in
+    let c : x ≢ 3 = λ e. n Backup (sym e) in
+    rw (ne_eqb x 15 a, ne_eqb x 7 b, ne_eqb x 3 c)

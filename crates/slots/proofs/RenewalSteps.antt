@@ -2,12 +2,11 @@
 use Prim.Native.Nat.{ℕ, suc, ◌+◌, ◌-◌, ◌≤◌, ◌<◌}
 use mathlib.Core.Bool.{Bool, true, false, cond}
 use mathlib.Core.List.{List, [], ◌∷◌}
-use mathlib.Core.Logic.{◌≢◌}
 use mathlib.Core.Path.{◌≡◌, refl, sym, ap, ◌∙◌}
 use native.Mathlib.Omega.{arith}
+use Rattle.std.specs.Prelude.{Option, Some, None}
 use lib.ListN.{length}
 use Rattle.compare.specs.Compare.{all}
-use Rattle.compare.proofs.Tests.{by_test}
 use Rattle.flash.specs.Bytes.{blank, write}
 use Rattle.flash.specs.Changes.{target_start, target_size, Lies}
 use Rattle.flash.specs.Geometry.{geometry_check}
@@ -22,8 +21,6 @@ use Rattle.slots.specs.OnePlace.{Stepped}
 use Rattle.slots.specs.Places.{offset, bytes_at, trailer_of}
 use Rattle.slots.specs.Renewed.{steps_left, Renewing, RenewalEnds}
 use Rattle.slots.specs.Trailers.{flag_count, renewed_to, all_but_state, renew, renewal_of}
-use Rattle.slots.specs.declared.answers.Work.{Work}
-use Rattle.slots.specs.declared.answers.Work.TheVariants.{Due, Finished, Refused}
 use Rattle.slots.specs.declared.places.Place.{Place}
 use Rattle.slots.specs.declared.places.Place.TheVariants.{Sector}
 use Rattle.slots.specs.declared.places.Slot.{Slot}
@@ -91,10 +88,10 @@ module _ (g : Geometry) (f : List ℕ) (s : Slot) (x : ℕ) (ok : geometry_check
       = on.marked ∙ ap (λ (l : List ℕ). write l (z - 4) closing) (rw size at q) in
       step (Mark (at + (z - 4))) 0 a (omega arith, omega (arith, hz)) (rw w (left_closed z hz x hx n hn)) e
 
-  due-is : {c d : Step} → ◌≡◌ {A = Work} (Due c) (Due d) → c ≡ d
+  due-is : {c d : Step} → ◌≡◌ {A = Option Step} (Some c) (Some d) → c ≡ d
   due-is e = cc
 
-  due : (d : Step) → renewal_of g f s x ≡ Due d → Renewing g f s x d
+  due : (d : Step) → renewal_of g f s x ≡ Some d → Renewing g f s x d
   unfolding renew steps_left
   due d due-d = go (renewed_to t n x) refl (all 0xFF t) refl (all_but_state t x) refl due-d
     where
@@ -108,7 +105,7 @@ module _ (g : Geometry) (f : List ℕ) (s : Slot) (x : ℕ) (ok : geometry_check
       four = omega (arith, size, hz)
 
       go : (r : Bool) → renewed_to t n x ≡ r → (a : Bool) → all 0xFF t ≡ a → (b : Bool) → all_but_state t x ≡ b
-          → cond r Finished (Due (cond a (Byte (at + length t - 5) x) (cond b (Mark (at + length t - 4)) (Erase at)))) ≡ Due d → Renewing g f s x d
+          → cond r None (Some (cond a (Byte (at + length t - 5) x) (cond b (Mark (at + length t - 4)) (Erase at)))) ≡ Some d → Renewing g f s x d
       go true er a ea b eb q = absurd (let o : ◌≡◌ {A = ℕ} 0 1 = cc in omega arith)
       go false er true ea b eb q =
           let e : Byte (at + (z - 5)) x ≡ d = rw five at (due-is q) in
@@ -120,23 +117,17 @@ module _ (g : Geometry) (f : List ℕ) (s : Slot) (x : ℕ) (ok : geometry_check
           let e : Erase at ≡ d = due-is q in
           rw (← e) (erase (rw (← e) at ok_d) (rw (er, ea, eb)))
 
-  finished : steps_left t n x ≡ 0 → renewal_of g f s x ≡ Finished
+  finished : steps_left t n x ≡ 0 → renewal_of g f s x ≡ None
   unfolding renew steps_left
   finished = go (renewed_to t n x) refl (all 0xFF t) refl (all_but_state t x) refl
     where
       go : (r : Bool) → renewed_to t n x ≡ r → (a : Bool) → all 0xFF t ≡ a → (b : Bool) → all_but_state t x ≡ b
           → ◌≡◌ {A = ℕ} (cond r 0 (cond a 2 (cond b 1 3))) 0
-          → cond r Finished (Due (cond a (Byte (at + length t - 5) x) (cond b (Mark (at + length t - 4)) (Erase at)))) ≡ Finished
+          → cond r None (Some (cond a (Byte (at + length t - 5) x) (cond b (Mark (at + length t - 4)) (Erase at)))) ≡ None
       go true er a ea b eb q = refl
       go false er true ea b eb q = absurd (omega arith)
       go false er false ea true eb q = absurd (omega arith)
       go false er false ea false eb q = absurd (omega arith)
-
--- a renewal has a step due or is finished
-pub never_refused : (g : Geometry) (f : List ℕ) (s : Slot) (x m : ℕ) → renewal_of g f s x ≢ Refused m
-unfolding renew
-never_refused g f s x m = by_test (λ w. w ≢ Refused m) (renewed_to (trailer_of g f s) (flag_count g s) x)
-    (λ _. λ e. absurd (let o : ◌≡◌ {A = ℕ} 0 1 = cc in omega arith)) (λ _. λ e. absurd (let o : ◌≡◌ {A = ℕ} 0 1 = cc in omega arith))
 
 pub renewal_ends : RenewalEnds
 renewal_ends g f s x ok hx = record { finished = finished g f s x ok hx; due = due g f s x ok hx }

@@ -1,5 +1,5 @@
--- One step of a renewal, on the bytes of the trailer: from any trailer over all FF and all FF but the state to the renewed one.
--- Assumes nothing.
+-- One step of a renewal, on the bytes of the trailer: from any trailer over all FF and all FF but the state to the
+-- renewed one. Assumes nothing.
 use Prim.Native.Nat.{ℕ, ◌+◌, ◌-◌, ◌/◌, ◌%◌, ◌≤◌, ◌<◌}
 use mathlib.Core.Bool.{Bool, true, false, cond, not, ◌&&◌}
 use mathlib.Core.List.{List, [], ◌∷◌}

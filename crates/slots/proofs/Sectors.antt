@@ -1,5 +1,5 @@
 -- Sectors and images lie within the flash. Assumes nothing.
-use Prim.Native.Nat.{ℕ, ◌+◌, ◌-◌, ◌*◌, ◌≤◌}
+use Prim.Native.Nat.{ℕ, ◌+◌, ◌-◌, ◌≤◌}
 use mathlib.Core.List.{List}
 use mathlib.Core.Path.{◌≡◌, ap, ◌∙◌}
 use native.Mathlib.Nat.{mul-le-mul_right, add-sub_cancel_left}
@@ -24,15 +24,6 @@ module _ (g : Geometry) (len : ℕ) (v : Valid g len) where
   unfolding offset
   offset_in (Sector s i) h = omega (arith, mul-le-mul_right g.size h, slot_in s)
   offset_in Swap h = v.swap_in
-
-module _ (g : Geometry) where
-  pub offset-sector : {p : Place} {s : Slot} {i : ℕ} → p ≡ Sector s i → offset g p ≡ start g s + i * g.size
-  unfolding offset
-  offset-sector e = rw e
-
-  pub offset_swap : {p : Place} → p ≡ Swap → offset g p ≡ g.swap
-  unfolding offset
-  offset_swap e = rw e
 
 -- a part from a to a + n
 pub part_of : (f : List ℕ) (a n : ℕ) → take (a + n - a) (drop a f) ≡ take n (drop a f)

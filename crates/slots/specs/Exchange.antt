@@ -1,13 +1,11 @@
 -- Document 01, "The next step", decision 4: the exchange of sector i, the lowest whose flag v isn't 0.
-use Rattle.std.specs.Prelude.{ℕ, ◌*◌, ◌/◌, cond, List, eqb, ltb}
+use Rattle.std.specs.Prelude.{ℕ, ◌*◌, ◌/◌, cond, List, Option, Some, None, eqb, ltb}
 use Rattle.compare.specs.Compare.{same, all}
 use Rattle.flash.specs.declared.geometry.Geometry.{Geometry}
 use Rattle.flash.specs.declared.steps.Step.{Step}
 use Rattle.flash.specs.declared.steps.Step.TheVariants.{Erase, Copy}
 use Rattle.slots.specs.Flags.{new, swapping, backup, updated, flag_of, flag_step_of}
 use Rattle.slots.specs.Places.{offset, bytes_at}
-use Rattle.slots.specs.declared.answers.Work.{Work}
-use Rattle.slots.specs.declared.answers.Work.TheVariants.{Due, Finished}
 use Rattle.slots.specs.declared.places.Place.{Place}
 use Rattle.slots.specs.declared.places.Place.TheVariants.{Sector, Swap}
 use Rattle.slots.specs.declared.places.Slot.TheVariants.{Boot, Update}
@@ -32,11 +30,11 @@ exchange_step g f i v =
     (cond (all 0xFF (bytes_at g f (target i v))) (Copy (offset g (source i v)) (offset g (target i v)))
     (Erase (offset g (target i v))))
 
--- ---- at a progress p, as the code goes: sector p / 3 is the lowest whose flag isn't 0, and flag_of p its flag (`current` in
--- Correspondence); none is due where all flags are 0
+-- ---- at a progress p, as the code goes: sector p / 3 is the lowest whose flag isn't 0, and flag_of p its flag
+-- (`current` in Correspondence); none is due where all flags are 0
 
-unfoldable pub exchange_of : Geometry → List ℕ → ℕ → Work
-exchange_of g f p = cond (ltb p (3 * g.count)) (Due (exchange_step g f (p / 3) (flag_of p))) Finished
+unfoldable pub exchange_of : Geometry → List ℕ → ℕ → Option Step
+exchange_of g f p = cond (ltb p (3 * g.count)) (Some (exchange_step g f (p / 3) (flag_of p))) None
 
-unfoldable pub next_flag_of : Geometry → List ℕ → ℕ → Work
-next_flag_of g f p = cond (ltb p (3 * g.count)) (Due (flag_step_of g f (p / 3) (next_flag (flag_of p)))) Finished
+unfoldable pub next_flag_of : Geometry → List ℕ → ℕ → Option Step
+next_flag_of g f p = cond (ltb p (3 * g.count)) (Some (flag_step_of g f (p / 3) (next_flag (flag_of p)))) None

@@ -1,6 +1,6 @@
--- Claim: the step that writes a flag keeps the other half of its byte, every other flag, the state and the closing bytes,
--- and takes the progress one further.
-use Rattle.std.specs.Prelude.{ℕ, ◌+◌, ◌/◌, ◌<◌, List, ◌≢◌, ◌≡◌, length}
+-- Claim: the step that writes a flag keeps the other half of its byte, every other flag, the state and the closing
+-- bytes, and takes the progress one further.
+use Rattle.std.specs.Prelude.{ℕ, ◌+◌, ◌/◌, ◌<◌, List, Some, ◌≢◌, ◌≡◌, length}
 use Rattle.std.specs.Int.Bits.{bit_and}
 use Rattle.flash.specs.Cuts.{sound}
 use Rattle.flash.specs.Geometry.{geometry_check}
@@ -12,7 +12,6 @@ use Rattle.slots.specs.Exchange.{next_flag, next_flag_of}
 use Rattle.slots.specs.Flags.{flag, flags, flag_of}
 use Rattle.slots.specs.Places.{trailer_of}
 use Rattle.slots.specs.Trailers.{state}
-use Rattle.slots.specs.declared.answers.Work.TheVariants.{Due}
 use Rattle.slots.specs.declared.places.Slot.TheVariants.{Update}
 
 -- trailer t' is t with sector i's flag written as v; other: also the half that an odd n leaves over
@@ -28,4 +27,4 @@ pub record FlagWritten (g : Geometry) (f : List ℕ) (p : ℕ) (s : Step) : Type
       → FlagsAt g.count (p + 1) (flags g.count (trailer_of g (applied g f s) Update))
 
 abbrev pub NextFlag : Type 0
-NextFlag = (g : Geometry) (f : List ℕ) (p : ℕ) (s : Step) → geometry_check g (length f) ≡ 0 → next_flag_of g f p ≡ Due s → FlagWritten g f p s
+NextFlag = (g : Geometry) (f : List ℕ) (p : ℕ) (s : Step) → geometry_check g (length f) ≡ 0 → next_flag_of g f p ≡ Some s → FlagWritten g f p s

@@ -1,12 +1,10 @@
 -- Document 01, "Trailers and flags": the sector flags in UPDATE's trailer t, and how far the exchange has come.
-use Rattle.std.specs.Prelude.{ℕ, zero, suc, ◌+◌, ◌-◌, ◌*◌, ◌/◌, ◌%◌, ◌<◌, Bool, true, cond, ◌&&◌, ◌||◌, List, [], ◌∷◌, ◌≡◌, eqb, ltb, length, get_or}
+use Rattle.std.specs.Prelude.{ℕ, zero, suc, ◌+◌, ◌-◌, ◌*◌, ◌/◌, ◌%◌, ◌<◌, Bool, true, cond, ◌&&◌, ◌||◌, List, [], ◌∷◌, Result, Ok, Err, ◌≡◌, eqb, length, get_or}
 use Rattle.compare.specs.Compare.{all}
 use Rattle.flash.specs.declared.geometry.Geometry.{Geometry}
 use Rattle.flash.specs.declared.steps.Step.{Step}
 use Rattle.flash.specs.declared.steps.Step.TheVariants.{Byte}
 use Rattle.slots.specs.Places.{offset, trailer_of}
-use Rattle.slots.specs.declared.answers.Progress.{Progress}
-use Rattle.slots.specs.declared.answers.Progress.TheVariants.{At, Refused}
 use Rattle.slots.specs.declared.places.Place.TheVariants.{Sector}
 use Rattle.slots.specs.declared.places.Slot.TheVariants.{Update}
 
@@ -65,8 +63,8 @@ unfoldable pub progress : List ℕ → ℕ
 progress [] = 0
 progress (x ∷ xs) = cond (eqb x updated) (3 + progress xs) (stage x)
 
-unfoldable pub progress_of : List ℕ → Progress
-progress_of fs = cond (well_formed fs) (At (progress fs)) (Refused 20)
+unfoldable pub progress_of : List ℕ → Result ℕ ℕ
+progress_of fs = cond (well_formed fs) (Ok (progress fs)) (Err 20)
 
 -- the current sector's flag at a progress p; the sector is p / 3
 unfoldable pub flag_of : ℕ → ℕ
@@ -81,16 +79,12 @@ flag_step at t i v =
 unfoldable pub flag_step_of : Geometry → List ℕ → ℕ → ℕ → Step
 flag_step_of g f i v = flag_step (offset g (Sector Update g.count)) (trailer_of g f Update) i v
 
--- ---- the code's own: a flag byte lies in the trailer; the progress by the lowest sector whose flag isn't 0, that flag, and whether the
--- rest is new
+-- ---- the code's own: a flag byte lies in the trailer; the progress by the lowest sector whose flag isn't 0, that
+-- flag, and whether the rest is new
 
 pub record FlagPlace (len i at : ℕ) : Type 0 where
   pub is : at ≡ flag_at len i
   pub inside : at < len
 
--- one byte tells that of n sectors i and the next have the flag v
-unfoldable pub pair : ℕ → List ℕ → ℕ → ℕ → Bool
-pair n t i v = eqb (get_or t (flag_at (length t) i) 0) (17 * v) && eqb (i % 2) 0 && ltb (i + 1) n
-
-unfoldable pub progress_at : ℕ → ℕ → Bool → Progress
-progress_at i v rest = cond ((eqb v swapping || eqb v backup || eqb v new) && rest) (At (3 * i + stage v)) (Refused 20)
+unfoldable pub progress_at : ℕ → ℕ → Bool → Result ℕ ℕ
+progress_at i v rest = cond ((eqb v swapping || eqb v backup || eqb v new) && rest) (Ok (3 * i + stage v)) (Err 20)

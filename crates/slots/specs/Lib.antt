@@ -1,5 +1,6 @@
 pub mod Places
 pub mod Flags
+pub mod FlagKinds
 pub mod Trailers
 pub mod Exchange
 pub mod Answers

@@ -1,4 +1,5 @@
--- Claims about the sectors of a geometry that is not refused: they lie inside the flash and apart, and what one step makes of them.
+-- Claims about the sectors of a geometry that is not refused: they lie inside the flash and apart, and what one step
+-- makes of them.
 use Rattle.std.specs.Prelude.{ℕ, ◌+◌, ◌-◌, ◌≤◌, ◌<◌, List, [], ◌∷◌, ◌≢◌, ◌≡◌, length}
 use Rattle.flash.specs.Bytes.{blank, ands, write}
 use Rattle.flash.specs.Changes.{Lies, Only}

@@ -1,15 +1,12 @@
 -- Document 01, "Trailers and flags" and "The next step": a trailer's state, and its renewal to a state.
-use Rattle.std.specs.Prelude.{ℕ, ◌+◌, ◌-◌, Bool, cond, ◌&&◌, List, eqb, length, take, drop, get_or}
+use Rattle.std.specs.Prelude.{ℕ, ◌+◌, ◌-◌, Bool, cond, ◌&&◌, List, Option, Some, None, eqb, length, take, drop, get_or}
 use Rattle.compare.specs.Compare.{all}
 use Rattle.flash.specs.Cuts.{sound}
 use Rattle.flash.specs.declared.geometry.Geometry.{Geometry}
+use Rattle.flash.specs.declared.steps.Step.{Step}
 use Rattle.flash.specs.declared.steps.Step.TheVariants.{Erase, Byte, Mark}
 use Rattle.slots.specs.Flags.{new, flags}
 use Rattle.slots.specs.Places.{offset, trailer_of}
-use Rattle.slots.specs.declared.answers.SlotState.{SlotState}
-use Rattle.slots.specs.declared.answers.SlotState.TheVariants.{Sound, NotSound}
-use Rattle.slots.specs.declared.answers.Work.{Work}
-use Rattle.slots.specs.declared.answers.Work.TheVariants.{Due, Finished}
 use Rattle.slots.specs.declared.places.Place.TheVariants.{Sector}
 use Rattle.slots.specs.declared.places.Slot.{Slot}
 use Rattle.slots.specs.declared.places.Slot.TheVariants.{Boot, Update}
@@ -25,8 +22,8 @@ unfoldable pub sound_with : List ℕ → ℕ → Bool
 sound_with t v = sound t && eqb (state t) v
 
 -- the state byte of a sound trailer
-unfoldable pub state_of : List ℕ → SlotState
-state_of t = cond (sound t) (Sound (state t)) NotSound
+unfoldable pub state_of : List ℕ → Option ℕ
+state_of t = cond (sound t) (Some (state t)) None
 
 -- ---- renewing (the paper's word) a trailer to a state v
 
@@ -43,12 +40,12 @@ unfoldable pub all_but_state : List ℕ → ℕ → Bool
 all_but_state t v = all 0xFF (take (length t - 5) t) && eqb (state t) v && all 0xFF (drop (length t - 4) t)
 
 -- t is the trailer at an offset, with n flags
-unfoldable pub renew : ℕ → List ℕ → ℕ → ℕ → Work
+unfoldable pub renew : ℕ → List ℕ → ℕ → ℕ → Option Step
 renew at t n v =
-    cond (renewed_to t n v) Finished (Due
+    cond (renewed_to t n v) None (Some
     (cond (all 0xFF t) (Byte (at + length t - 5) v)
     (cond (all_but_state t v) (Mark (at + length t - 4))
     (Erase at))))
 
-abbrev pub renewal_of : Geometry → List ℕ → Slot → ℕ → Work
+abbrev pub renewal_of : Geometry → List ℕ → Slot → ℕ → Option Step
 renewal_of g f s v = renew (offset g (Sector s g.count)) (trailer_of g f s) (flag_count g s) v

@@ -1,81 +1,77 @@
 // Document 01, decision 4: a sector is exchanged by three copies, from UPDATE to SWAP, from BOOT to
 // UPDATE and from SWAP to BOOT, and a flag is written after each.
-ghost use Rattle.std.specs.Prelude.{◌≡◌, ◌<◌, length};
-ghost use Rattle.flash.specs.Valid.{Valid};
-ghost use Rattle.slots.specs.Exchange.{source, target, next_flag, exchange_step, exchange_of, next_flag_of};
+ghost use Rattle.std.specs.Prelude.{◌≡◌, ◌*◌, ◌/◌, ◌≤◌, ◌<◌, MatchOption};
+ghost use Rattle.slots.specs.Exchange.{source, target, exchange_step, exchange_of, next_flag_of};
+ghost use Rattle.slots.specs.FlagKinds.{value};
+ghost use Rattle.slots.specs.Flags.{flag_of};
+ghost use Rattle.slots.specs.Places.{Within};
 
-use crate::answers::Work;
-use crate::flags::{flag_of, flag_step};
-use crate::places::{Place, Slot, offset, sector};
+use crate::board::Board;
+use crate::flags::Flag;
+use crate::places::{Place, Slot};
 use compare::{all, same};
-use flash::{Geometry, Step};
+use flash::Step;
 
-// Of sector i, whose flag is v.
-fn source_of(i: usize, v: u8) -> Place
-    ensures { result ≡ source i v }
-{
-    match v {
-        0xF => Place::Sector(Slot::Update, i),
-        7 => Place::Sector(Slot::Boot, i),
-        _ => Place::Swap,
+impl Board<'_> {
+    // From where to where sector i is copied where its flag is the lowest that isn't 0.
+    #[tactic(auto, unfolding(crate::specs::Exchange::source, crate::specs::Exchange::target))]
+    fn copy_places(&self, i: usize, flag: Flag) -> (Place, Place)
+        requires { i < self.now.geometry.count }
+        ensures from { (result.0 ≡ source i (value flag)) × Within self.now.geometry result.0 }
+        ensures to { (result.1 ≡ target i (value flag)) × Within self.now.geometry result.1 }
+    {
+        match flag {
+            Flag::New => (Place::Sector(Slot::Update, i), Place::Swap),
+            Flag::Swapping => (Place::Sector(Slot::Boot, i), Place::Sector(Slot::Update, i)),
+            Flag::Backup | Flag::Updated => (Place::Swap, Place::Sector(Slot::Boot, i)),
+        }
     }
-}
 
-fn target_of(i: usize, v: u8) -> Place
-    ensures { result ≡ target i v }
-{
-    match v {
-        0xF => Place::Swap,
-        7 => Place::Sector(Slot::Update, i),
-        _ => Place::Sector(Slot::Boot, i),
+    // The step that is due where sector i's flag is the lowest that isn't 0.
+    #[tactic(auto, unfolding(crate::specs::Exchange::exchange_step, crate::specs::Flags::flag_step_of))]
+    fn exchange_step(&self, i: usize, flag: Flag) -> Step
+        requires { i < self.now.geometry.count }
+        ensures { result ≡ exchange_step self.now.geometry self.now.flash.now i (value flag) }
+    {
+        let (from, to) = self.copy_places(i, flag);
+        let target = self.sector(to);
+        if same(self.sector(from), target) {
+            return self.trailer(Slot::Update).flag_step(i, flag.next());
+        }
+        if all(0xFF, target) {
+            return Step::Copy(self.offset(from), self.offset(to));
+        }
+        Step::Erase(self.offset(to))
     }
-}
 
-// The flag that follows a flag.
-fn flag_after(v: u8) -> u8
-    ensures { (result ≡ next_flag v) × (result < 16) }
-{
-    match v {
-        0xF => 7,
-        7 => 3,
-        _ => 0,
+    // The current sector at a progress and its flag, or none where all are finished.
+    fn current(&self, reached: usize) -> Option<(usize, Flag)>
+        ensures { MatchOption result (3 * self.now.geometry.count ≤ reached) (λ c.
+            (c.0 ≡ reached / 3) × (value c.1 ≡ flag_of reached) × (reached < 3 * self.now.geometry.count)) }
+    {
+        let i = reached / 3;
+        if self.geometry.count <= i {
+            return None;
+        }
+        Some((i, Flag::at(reached)))
     }
-}
 
-// The step that is due where sector i's flag v is the lowest that isn't 0.
-fn exchange_step(flash: &[u8], g: Geometry, i: usize, v: u8) -> Step
-    requires { Valid g (length flash.now) × (i < g.count) }
-    ensures { result ≡ exchange_step g flash.now i v }
-{
-    let from = source_of(i, v);
-    let to = target_of(i, v);
-    let source = sector(flash, g, from);
-    let target = sector(flash, g, to);
-    if same(source, target) {
-        return flag_step(flash, g, i, flag_after(v));
+    // The next step of the exchange at a progress: a copy with its erase before and its flag after, or
+    // none where all flags are 0.
+    #[tactic(auto, unfolding(crate::specs::Exchange::exchange_of))]
+    pub fn exchange(&self, reached: usize) -> Option<Step>
+        ensures { result ≡ exchange_of self.now.geometry self.now.flash.now reached }
+    {
+        let (i, flag) = self.current(reached)?;
+        Some(self.exchange_step(i, flag))
     }
-    if all(0xFF, target) {
-        return Step::Copy(offset(g, from), offset(g, to));
-    }
-    Step::Erase(offset(g, to))
-}
 
-pub(crate) fn exchange(flash: &[u8], g: Geometry, reached: usize) -> Work
-    requires { Valid g (length flash.now) }
-    ensures { result ≡ exchange_of g flash.now reached }
-{
-    if 3 * g.count <= reached {
-        return Work::Finished;
+    // The step that writes the flag after a progress, or none where all flags are 0.
+    #[tactic(auto, unfolding(crate::specs::Exchange::next_flag_of, crate::specs::Flags::flag_step_of))]
+    pub fn next_flag(&self, reached: usize) -> Option<Step>
+        ensures { result ≡ next_flag_of self.now.geometry self.now.flash.now reached }
+    {
+        let (i, flag) = self.current(reached)?;
+        Some(self.trailer(Slot::Update).flag_step(i, flag.next()))
     }
-    Work::Due(exchange_step(flash, g, reached / 3, flag_of(reached)))
-}
-
-pub(crate) fn next_flag(flash: &[u8], g: Geometry, reached: usize) -> Work
-    requires { Valid g (length flash.now) }
-    ensures { result ≡ next_flag_of g flash.now reached }
-{
-    if 3 * g.count <= reached {
-        return Work::Finished;
-    }
-    Work::Due(flag_step(flash, g, reached / 3, flag_after(flag_of(reached))))
 }

@@ -3,43 +3,39 @@
 #![tactic(auto)]
 
 ghost use Rattle.std.specs.Prelude.{◌≡◌, IfOk};
+ghost use Rattle.refusal.specs.Numbers.{number};
 ghost use Rattle.tags.specs.Listed.{end_of};
 
-use header::{Lookup, Tag, Wanted};
+use refusal::Refusal;
 use std::io;
 
-fn print_tag(rt: &impl Print, t: Tag) -> io::Result<()> {
-    show::field(rt, t.kind as u64)?;
-    show::field(rt, t.at as u64)?;
-    show::decimal(rt, t.len as u64)
-}
-
-fn print_end(rt: &impl Print, number: u32) -> io::Result<()> {
-    if number == 25 {
-        return println!(rt; "END");
-    }
-    show::decimal(rt, number as u64)
-}
-
-// Prints each tag, and answers the number with which the list ends.
-fn print_tags(rt: &impl Print, header: &[u8]) -> io::Result<u32>
-    ensures { IfOk result (λ number. number ≡ end_of header.now) }
+// Prints each tag, and answers the refusal with which the list ends.
+fn print_tags(rt: &impl Print, header: &[u8]) -> io::Result<Refusal>
+    ensures { IfOk result (λ refusal. number refusal ≡ end_of header.now) }
 {
+    // By lookups, as a member lists them; the last one's refusal is the answer, so it is no iterator.
     let mut p = header::FIRST;
     loop {
-        match header::next_tag(header, p, Wanted::Any) {
-            Lookup::Found(t) => {
-                print_tag(rt, t)?;
+        match header::next_tag(header, p, None) {
+            Ok(t) => {
+                println!(rt; "{} {} {}", t.kind, t.at, t.len)?;
                 p = t.next;
             }
-            Lookup::Refused(number) => return Ok(number),
+            Err(refusal) => return Ok(refusal),
         }
+    }
+}
+
+fn print_end(rt: &impl Print, refusal: Refusal) -> io::Result<()> {
+    match refusal {
+        Refusal::TagAbsent => println!(rt; "END"),
+        _ => println!(rt; "{}", refusal.number()),
     }
 }
 
 fn main(rt: HostRuntime) -> io::Result<()> {
     let mut header = [0u8; header::LENGTH];
     let n = files::read_full(&mut rt.stdin(), &mut header)?;
-    let number = print_tags(&rt, &header[..n])?;
-    print_end(&rt, number)
+    let refusal = print_tags(&rt, &header[..n])?;
+    print_end(&rt, refusal)
 }

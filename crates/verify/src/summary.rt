@@ -1,8 +1,9 @@
 // What is told of an image.
 ghost use Rattle.std.specs.Prelude.{◌≡◌};
-ghost use Rattle.verify.specs.Summary.{summary_of};
+ghost use Rattle.verify.specs.Summary.{told, summary_of};
 
-use header::{u32_at, view};
+use header::{number_at, view};
+use refusal::Refusal;
 
 // The numbers that a header holds.
 #[derive(Clone, Copy)]
@@ -13,26 +14,24 @@ pub(crate) struct Numbers {
     pub(crate) size: u32,
 }
 
-// The number of the check 10 to 16 or 30 that the header fails; or the verdict, and what the header holds.
 #[derive(Clone, Copy)]
-pub(crate) enum Summary {
-    Refused(u32),
-    Read(u32, Numbers),
+pub(crate) struct Summary {
+    pub(crate) verdict: Result<(), Refusal>,
+    pub(crate) numbers: Numbers,
 }
 
-pub(crate) fn summary_of(image: &[u8], signed: bool) -> Summary
-    ensures { result ≡ summary_of image.now signed }
+// The verdict, and what the header holds; or which of the checks 10 to 16 and 30 the header fails.
+#[tactic(auto, unfolding(crate::specs::Summary::summary_of, crate::specs::Summary::numbers_of))]
+pub(crate) fn summary_of(image: &[u8], signed: bool) -> Result<Summary, Refusal>
+    ensures { told result ≡ summary_of image.now signed }
 {
-    let number = header::check(image);
-    if number != 0 {
-        return Summary::Refused(number);
-    }
+    header::check(image)?;
     let verdict = image::verify(image, signed);
     let numbers = Numbers {
-        version: u32_at(view(image, header::VERSION), 0),
-        timestamp: records::u64_at(view(image, header::TIMESTAMP), 0),
-        firmware_type: header::u16_at(view(image, header::FIRMWARE_TYPE), 0),
-        size: u32_at(image, 4),
+        version: number_at(view(image, header::VERSION), 0),
+        timestamp: number_at(view(image, header::TIMESTAMP), 0),
+        firmware_type: number_at(view(image, header::FIRMWARE_TYPE), 0),
+        size: number_at(image, 4),
     };
-    Summary::Read(verdict, numbers)
+    Ok(Summary { verdict, numbers })
 }

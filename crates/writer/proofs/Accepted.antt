@@ -7,11 +7,11 @@ use mathlib.Core.Path.{◌≡◌}
 use native.Mathlib.Omega.{arith}
 use lib.Dec.{ltb, eqb}
 use lib.ListN.{length}
-use borrow.Author.Tests.{ltb-false, eqb-false, eq-eqb, ne_eqb}
-use Rattle.header.proofs.Refusals.{first_one, zero_at}
+use borrow.Author.Tests.{ltb-false, eqb-false, eqb-true}
+use Rattle.header.proofs.Refusals.{zero_at}
 use Rattle.compare.proofs.Tests.{by_test}
 use Rattle.writer.specs.Custom.{tags_of, well_formed, custom_check}
-use Rattle.writer.specs.Writer.{firmware_check, fields_check, write_check}
+use Rattle.writer.specs.Writer.{buffer_check, firmware_check, fields_check, write_check}
 
 pub record Custom (run : List ℕ) : Type 0 where
   pub size : length run ≤ 82
@@ -39,18 +39,19 @@ firmware-accepted f =
     (λ n. by_test (λ (r : ℕ). r ≡ 0 → Firmware f) (ltb 4294967039 (length f)) (λ t e. absurd (omega arith))
     (λ t e. record { some = eqb-false _ _ n; size = ltb-false _ _ t }))
 
+buffer_accepted : (b : List ℕ) → buffer_check b ≡ 0 → length b ≡ 256
+buffer_accepted b =
+    by_test (λ (r : ℕ). r ≡ 0 → length b ≡ 256) (eqb (length b) 256) (λ t e. eqb-true _ _ t) (λ t e. absurd (omega arith))
+
 pub accepted : (firmware custom : List ℕ) → fields_check firmware custom ≡ 0 → Accepted firmware custom
 unfolding fields_check
 accepted f c e =
     let checks : List ℕ = firmware_check f ∷ custom_check c ∷ [] in
     record { firmware_ok = firmware-accepted f (zero_at checks 0 e); custom_ok = custom_accepted c (zero_at checks 1 e) }
 
--- what the second call refuses
-module _ (b f c : List ℕ) where
-  pub refused_buffer : (length b ≡ 256 → ⊥) → 10 ≡ write_check b f c
-  unfolding write_check
-  refused_buffer h = simp (ne_eqb _ _ h)
-
-  pub refused_fields : length b ≡ 256 → fields_check f c ≡ write_check b f c
-  unfolding write_check
-  refused_fields h = simp (eq-eqb _ _ h, first_one)
+-- what the second call accepts
+pub written : (b f c : List ℕ) → write_check b f c ≡ 0 → (length b ≡ 256) × (fields_check f c ≡ 0)
+unfolding write_check
+written b f c e =
+    let checks : List ℕ = buffer_check b ∷ fields_check f c ∷ [] in
+    (buffer_accepted b (zero_at checks 0 e), zero_at checks 1 e)

@@ -1,62 +1,48 @@
 -- The whole header, from the pieces that the code stores.
 -- Assumes nothing.
-use Prim.Native.Nat.{ℕ, ◌+◌, ◌-◌, ◌≤◌}
-use mathlib.Core.List.{List, ◌++◌, append_assoc}
-use mathlib.Core.Path.{◌≡◌, sym, ◌∙◌}
-use native.Mathlib.Nat.{zero-add}
-use native.Mathlib.Omega.{arith}
-use lib.ListN.{length, take, replicate, length-append, length-replicate}
-use lib.Seq.{take_all}
+use Rattle.std.proofs.Common.{◌≡◌, ℕ, ◌+◌, ◌-◌, ◌≤◌, List, ◌++◌, length, take, replicate, Result, Ok, Err, ◌∙◌, append_assoc, arith, length-append}
 use borrow.Author.Tests.{ne_eqb}
+use Rattle.refusal.specs.Numbers.{numbered}
+use Rattle.refusal.specs.declared.Refusal.{Refusal}
 use Rattle.sha256.specs.Digest.{longest, answer}
-use Rattle.sha256.specs.declared.DigestAnswer.{DigestAnswer}
 use Rattle.sha256.proofs.Answers as D
 use Rattle.sha256.proofs.Answers.{short_enough}
-use Rattle.writer.specs.Layout.{tag_bytes, covered_part, digest_to_sign, written}
+use Rattle.writer.specs.Layout.{tag_bytes, fixed_part, covered_part, digest_to_sign, written}
 use Rattle.writer.specs.Stored.{Stored}
-use Rattle.writer.specs.Writer.{fields_check, to_sign, write_check, buffer_after}
+use Rattle.writer.specs.Writer.{fields_check, write_check, buffer_after}
 use Rattle.writer.specs.declared.Fields.{Fields}
-use Rattle.writer.proofs.Accepted.{Accepted}
-use Rattle.writer.proofs.Stores.{then_stored, length-le, tag-length}
+use Rattle.writer.proofs.Accepted.{accepted}
+use Rattle.writer.proofs.Stores.{length-le, tag_length}
+
+is_ok : {A : Type 0} (r : Result A Refusal) (x : A) → numbered r ≡ Ok x → r ≡ Ok x
+is_ok (Ok y) x e = cc
+is_ok (Err d) x e = cc
 
 module _ (fields : Fields) (firmware custom hint : List ℕ) where
-  pub covered-length : length hint ≡ 32 → length (covered_part fields firmware custom hint) ≡ 70 + length custom
+  pub fixed_length : length (fixed_part fields firmware) ≡ 34
+  fixed_length = simp (length-append, tag_length, length-le)
+
+  pub covered_length : length hint ≡ 32 → length (covered_part fields firmware custom hint) ≡ 70 + length custom
   unfolding covered_part
-  covered-length h = simp (length-append, tag-length, length-le) (omega arith)
+  covered_length h = simp (length-append, tag_length, length-le) (omega arith)
 
-  module _ (b b' : List ℕ) (h : length hint ≡ 32) (p : Stored b 0 (covered_part fields firmware custom hint) b') where
-    pub covered-is : take (70 + length custom) b' ≡ covered_part fields firmware custom hint
-    covered-is = rw (← covered-length h, ← zero-add (length (covered_part fields firmware custom hint))) p.start
-
-    -- the digest that the code makes
-    pub answer-is :
-        (r : DigestAnswer) →
-        Accepted firmware custom →
-        r ≡ answer (take (70 + length custom) b' ++ firmware) →
-        r ≡ record { number = 0; bytes = digest_to_sign fields firmware custom hint }
-    unfolding digest_to_sign
-    answer-is r a e =
-        let l : length (covered_part fields firmware custom hint ++ firmware) ≤ longest =
-        rw (length-append (covered_part fields firmware custom hint) firmware, covered-length h) (omega (arith, a.firmware_ok, a.custom_ok)) in
-        e ∙ rw covered-is (short_enough longest (covered_part fields firmware custom hint ++ firmware) l)
+  -- the digest that the code makes
+  pub digest-is :
+      (r : Result (List ℕ) Refusal) →
+      length hint ≡ 32 →
+      fields_check firmware custom ≡ 0 →
+      numbered r ≡ answer (covered_part fields firmware custom hint ++ firmware) →
+      r ≡ Ok (digest_to_sign fields firmware custom hint)
+  unfolding digest_to_sign
+  digest-is r h e q =
+      let a = accepted firmware custom e in
+      let l : length (covered_part fields firmware custom hint ++ firmware) ≤ longest =
+      rw (length-append (covered_part fields firmware custom hint) firmware) (omega (arith, covered_length h, a.firmware_ok, a.custom_ok)) in
+      is_ok r _ (q ∙ short_enough longest (covered_part fields firmware custom hint ++ firmware) l)
 
   pub digest-length : length (digest_to_sign fields firmware custom hint) ≡ 32
   unfolding digest_to_sign
   digest-length = D.digest-length _
-
-  pub signs :
-      fields_check firmware custom ≡ 0 →
-      ◌≡◌ {A = DigestAnswer} (record { number = 0; bytes = digest_to_sign fields firmware custom hint }) (to_sign fields firmware custom hint)
-  unfolding to_sign
-  signs e = simp e
-
-  pub refuses :
-      (n : ℕ) →
-      n ≡ fields_check firmware custom →
-      (n ≡ 0 → ⊥) →
-      ◌≡◌ {A = DigestAnswer} (record { number = n; bytes = replicate 32 0 }) (to_sign fields firmware custom hint)
-  unfolding to_sign
-  refuses n e q = rw (← e) (simp (ne_eqb _ _ q))
 
   module _ (signature : List ℕ) where
     pub kept :
@@ -66,24 +52,17 @@ module _ (fields : Fields) (firmware custom hint : List ℕ) where
 
     -- the pieces are the header
     pub filled :
-        (b b₁ b₂ d : List ℕ) →
+        {b b₁ b₂ : List ℕ} {at : ℕ} →
         write_check b firmware custom ≡ 0 →
         length b ≡ 256 →
         length custom ≤ 82 →
         length hint ≡ 32 →
-        length d ≡ 32 →
         length signature ≡ 64 →
-        d ≡ digest_to_sign fields firmware custom hint →
-        Stored b 0 (covered_part fields firmware custom hint) b₁ →
-        Stored b₁ (70 + length custom) (tag_bytes 0x0003 d ++ tag_bytes 0x0020 signature ++ replicate (length b₁ - (70 + length custom + 104)) 0xFF) b₂ →
+        Stored 0 b ((covered_part fields firmware custom hint ++ tag_bytes 0x0003 (digest_to_sign fields firmware custom hint)) ++ tag_bytes 0x0020 signature) at b₁ →
+        b₂ ≡ take at b₁ ++ replicate (length b₁ - at) 0xFF →
         b₂ ≡ buffer_after b fields firmware custom hint signature
     unfolding buffer_after written
-    filled b b₁ b₂ d w l s h n g e p q =
-        let m : length b₁ - (70 + length custom + 104) ≡ 82 - length custom = omega (arith, p.long) in
-        let a : List ℕ =
-        covered_part fields firmware custom hint
-        ++ (tag_bytes 0x0003 d ++ tag_bytes 0x0020 signature ++ replicate (length b₁ - (70 + length custom + 104)) 0xFF) in
-        let x : Stored b 0 a b₂ = then_stored p q (omega (arith, covered-length h)) in
-        let f : length b₂ ≤ 0 + length a =
-        simp (length-append, tag-length, length-replicate, covered-length h) (omega (arith, x.long)) in
-        simp w (sym (take_all (0 + length a) b₂ f) ∙ x.start ∙ rw (m, e) (simp append_assoc))
+    filled {b} {b₁} {b₂} {at} w l s h n p e =
+        let place : at ≡ 174 + length custom = p.next ∙ simp (length-append, tag_length, covered_length h, digest-length, n) (omega arith) in
+        let left : length b₁ - at ≡ 82 - length custom = omega (arith, p.long, place) in
+        simp w (e ∙ rw (p.start, left) (simp append_assoc))

@@ -1,7 +1,8 @@
 -- The code's own, in no promise to a caller: a piece stored in a buffer.
 use Rattle.std.specs.Prelude.{ℕ, ◌+◌, List, ◌++◌, ◌≡◌, length, take}
 
--- the piece at place `at` of the bytes b gives the bytes b'; what is before it is kept
-pub record Stored (b : List ℕ) (at : ℕ) (piece b' : List ℕ) : Type 0 where
+-- a piece put behind the first `at` bytes of b gives the first at' bytes of b'
+pub record Stored (at : ℕ) (b piece : List ℕ) (at' : ℕ) (b' : List ℕ) : Type 0 where
   pub long : length b' ≡ length b
-  pub start : take (at + length piece) b' ≡ take at b ++ piece
+  pub next : at' ≡ at + length piece
+  pub start : take at' b' ≡ take at b ++ piece

@@ -1,7 +1,6 @@
 -- Document 01, "Header" and "Numbers given back": what the writer's two calls answer and leave, on every input.
-use Rattle.std.specs.Prelude.{ℕ, cond, List, [], ◌∷◌, ltb, eqb, length, replicate}
+use Rattle.std.specs.Prelude.{ℕ, cond, List, [], ◌∷◌, Result, Ok, Err, ltb, eqb, length}
 use Rattle.header.specs.Checks.{first_refusal}
-use Rattle.sha256.specs.declared.DigestAnswer.{DigestAnswer}
 use Rattle.writer.specs.Custom.{custom_check}
 use Rattle.writer.specs.Layout.{digest_to_sign, written}
 use Rattle.writer.specs.declared.Fields.{Fields}
@@ -16,13 +15,10 @@ firmware_check firmware = cond (eqb (length firmware) 0) 12 (cond (ltb 429496703
 unfoldable pub fields_check : List ℕ → List ℕ → ℕ
 fields_check firmware custom = first_refusal (firmware_check firmware ∷ custom_check custom ∷ [])
 
--- what it answers: the digest to be signed, or the refusal's number and zeros
-unfoldable pub to_sign : Fields → List ℕ → List ℕ → List ℕ → DigestAnswer
+-- what it answers: the digest to be signed, or the refusal's number
+unfoldable pub to_sign : Fields → List ℕ → List ℕ → List ℕ → Result (List ℕ) ℕ
 to_sign fields firmware custom hint =
-    record {
-      number = fields_check firmware custom;
-      bytes = cond (eqb (fields_check firmware custom) 0) (digest_to_sign fields firmware custom hint) (replicate 32 0);
-    }
+    cond (eqb (fields_check firmware custom) 0) (Ok (digest_to_sign fields firmware custom hint)) (Err (fields_check firmware custom))
 
 -- what the second call refuses, and answers
 unfoldable pub write_check : List ℕ → List ℕ → List ℕ → ℕ

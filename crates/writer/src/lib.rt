@@ -3,111 +3,129 @@
 #![tactic(auto)]
 
 mod checks;
-mod pieces;
+mod draft;
 
-ghost use Rattle.std.specs.Prelude.{◌≡◌, ◌++◌, ◌+◌, ◌-◌, ◌≤◌, length, replicate};
-ghost use Rattle.header.specs.Types.{digest_type, signature_type};
-ghost use Rattle.writer.specs.Layout.{tag_bytes, fixed_part, covered_part};
+ghost use Rattle.std.specs.Prelude.{◌≡◌, ◌^◌, ◌<◌, ◌≤◌, length, take};
+ghost use Rattle.refusal.specs.Numbers.{numbered, number_or_zero};
+ghost use Rattle.writer.specs.Layout.{fixed_part, covered_part, digest_to_sign};
 ghost use Rattle.writer.specs.Stored.{Stored};
-ghost use Rattle.writer.specs.Writer.{to_sign, write_check, buffer_after};
+ghost use Rattle.writer.specs.Writer.{fields_check, to_sign, write_check, buffer_after};
 
-use checks::check_fields;
-use pieces::{put, put_number, put_number_tag, put_padding, put_tag};
-use sha256::DigestAnswer;
+use checks::{check_custom, check_firmware};
+use draft::Draft;
+use refusal::Refusal;
 
-// The numbers that a header holds beside the firmware's size.
+// The numbers that a header holds beside the firmware's size. C lends them as they are.
 #[repr(C)]
-#[derive(Clone, Copy)]
+#[derive(Clone, Copy, Debug, PartialEq, Eq)]
 pub struct Fields {
     pub version: u32,
     pub timestamp: u64,
     pub firmware_type: u16,
 }
 
-// Stores the mark, the firmware's size and the numbers.
-fn put_fixed(buffer: &mut [u8], fields: Fields, firmware: &[u8])
-    requires { 34 ≤ length buffer.old }
-    ensures { Stored buffer.old 0 (fixed_part fields firmware.now) buffer.new }
-{
-    put(buffer, 0, b"WOLF");
-    put_number(buffer, 4, 4, firmware.len() as u64);
-    put_number_tag(buffer, 8, header::VERSION, 4, fields.version as u64);
-    put_number_tag(buffer, 16, header::TIMESTAMP, 8, fields.timestamp);
-    put_number_tag(
-        buffer,
-        28,
-        header::FIRMWARE_TYPE,
-        2,
-        fields.firmware_type as u64,
-    );
+// What a header is written from: its numbers, the firmware behind it, the run of custom tags and the hint of the key.
+#[derive(Clone, Copy)]
+pub struct Contents<'a> {
+    pub fields: Fields,
+    pub firmware: &'a [u8],
+    pub custom: &'a [u8],
+    pub hint: &'a [u8; 32],
 }
 
-// Stores what the digest covers.
-fn put_covered(buffer: &mut [u8], fields: Fields, firmware: &[u8], custom: &[u8], hint: &[u8; 32])
-    requires { (length custom.now ≤ 82) × (length buffer.old ≡ 256) }
-    ensures bytes { Stored buffer.old 0 (covered_part fields firmware.now custom.now hint.now) buffer.new }
-    ensures hint { length hint.now ≡ 32 }
-{
-    put_fixed(buffer, fields, firmware);
-    put(buffer, 34, custom);
-    put_tag(buffer, 34 + custom.len(), header::HINT, hint);
-}
+impl<'a> Contents<'a> {
+    #[tactic(auto, unfolding(crate::specs::Writer::fields_check))]
+    // What both calls refuse.
+    fn check(&self) -> Result<(), Refusal>
+        ensures { number_or_zero result ≡ fields_check self.now.firmware.now self.now.custom.now }
+    {
+        check_firmware(self.firmware)?;
+        check_custom(self.custom)
+    }
 
-// Stores the digest and the signature, and padding up to the end.
-fn put_rest(buffer: &mut [u8], at: usize, digest: &[u8; 32], signature: &[u8; 64])
-    requires { at + 104 ≤ length buffer.old }
-    ensures bytes { Stored buffer.old at (tag_bytes digest_type digest.now ++ tag_bytes signature_type signature.now ++ replicate (length buffer.old - (at + 104)) 0xFF) buffer.new }
-    ensures lengths { (length digest.now ≡ 32) × (length signature.now ≡ 64) }
-{
-    put_tag(buffer, at, header::DIGEST, digest);
-    put_tag(buffer, at + 36, header::SIGNATURE, signature);
-    put_padding(buffer, at + 104);
-}
+    // What the second call refuses.
+    #[tactic(auto, unfolding(crate::specs::Writer::write_check))]
+    fn check_write(&self, buffer: &[u8]) -> Result<(), Refusal>
+        ensures { number_or_zero result ≡ write_check buffer.now self.now.firmware.now self.now.custom.now }
+    {
+        if buffer.len() != header::LENGTH {
+            return Err(Refusal::Length);
+        }
+        self.check()
+    }
 
-// The first call: the digest to be signed; or 12, 26 or 27.
-pub fn digest_to_sign(
-    fields: Fields,
-    firmware: &[u8],
-    custom: &[u8],
-    hint: &[u8; 32],
-) -> DigestAnswer
-    ensures { result ≡ to_sign fields firmware.now custom.now hint.now }
-{
-    let number = check_fields(firmware, custom);
-    if number != 0 {
-        return DigestAnswer {
-            number,
-            bytes: [0; 32],
+    // The mark, the firmware's size and the numbers.
+    #[tactic(auto, using(crate::proofs::Stores::tag_length))]
+    fn put_fixed(&self, draft: &mut Draft)
+        requires start { draft.old.at ≡ 0 }
+        requires room { 34 ≤ length draft.old.buffer.now }
+        requires size { length self.now.firmware.now < 2 ^ 32 }
+        ensures same_reference { draft.new.buffer.ghost_name ≡ draft.old.buffer.ghost_name }
+        ensures bytes { Stored 0 draft.old.buffer.now (fixed_part self.now.fields self.now.firmware.now) draft.new.at draft.new.buffer.now }
+    {
+        draft.put(b"WOLF");
+        draft.put(&(self.firmware.len() as u32).to_le_bytes());
+        draft.put_tag(header::VERSION, &self.fields.version.to_le_bytes());
+        draft.put_tag(header::TIMESTAMP, &self.fields.timestamp.to_le_bytes());
+        draft.put_tag(
+            header::FIRMWARE_TYPE,
+            &self.fields.firmware_type.to_le_bytes(),
+        );
+    }
+
+    // What the digest covers.
+    fn put_covered(&self, draft: &mut Draft)
+        requires start { draft.old.at ≡ 0 }
+        requires room { length draft.old.buffer.now ≡ 256 }
+        requires accepted { fields_check self.now.firmware.now self.now.custom.now ≡ 0 }
+        ensures same_reference { draft.new.buffer.ghost_name ≡ draft.old.buffer.ghost_name }
+        ensures hint { length self.now.hint.now ≡ 32 }
+        ensures bytes { Stored 0 draft.old.buffer.now (covered_part self.now.fields self.now.firmware.now self.now.custom.now self.now.hint.now) draft.new.at draft.new.buffer.now }
+    {
+        self.put_fixed(draft);
+        draft.put(self.custom);
+        let hint = self.hint;
+        draft.put_tag(header::HINT, hint);
+    }
+
+    // The digest of what put_covered wrote and the firmware. So short a message always has one: the unwrap is proved,
+    // and tests nothing.
+    fn digest(&self, covered: &[u8]) -> [u8; 32]
+        requires accepted { fields_check self.now.firmware.now self.now.custom.now ≡ 0 }
+        requires hint { length self.now.hint.now ≡ 32 }
+        requires covered { covered.now ≡ covered_part self.now.fields self.now.firmware.now self.now.custom.now self.now.hint.now }
+        ensures { result ≡ digest_to_sign self.now.fields self.now.firmware.now self.now.custom.now self.now.hint.now }
+    {
+        sha256::digest_of_two(covered, self.firmware).unwrap()
+    }
+
+    // The first call: the digest to be signed.
+    #[tactic(auto, using(header::proofs::Refusals::refused), unfolding(crate::specs::Writer::to_sign))]
+    pub fn digest_to_sign(&self) -> Result<[u8; 32], Refusal>
+        ensures { numbered result ≡ to_sign self.now.fields self.now.firmware.now self.now.custom.now self.now.hint.now }
+    {
+        self.check()?;
+        let mut buffer = [0; 256];
+        let mut draft = Draft {
+            buffer: &mut buffer,
+            at: 0,
         };
+        self.put_covered(&mut draft);
+        Ok(self.digest(draft.written()))
     }
-    let mut buffer = [0u8; 256];
-    put_covered(&mut buffer, fields, firmware, custom, hint);
-    let end = 70 + custom.len();
-    sha256::digest_of_two(&buffer[..end], firmware)
-}
 
-// The second call: the header; or 10, 12, 26 or 27, and the buffer as it was.
-pub fn write_header(
-    buffer: &mut [u8],
-    fields: Fields,
-    firmware: &[u8],
-    custom: &[u8],
-    hint: &[u8; 32],
-    signature: &[u8; 64],
-) -> u32
-    ensures number { result ≡ write_check buffer.old firmware.now custom.now }
-    ensures bytes { buffer.new ≡ buffer_after buffer.old fields firmware.now custom.now hint.now signature.now }
-{
-    if buffer.len() != header::LENGTH {
-        return 10;
+    // The second call: the header; or a refusal, and the buffer as it was.
+    pub fn write_header(&self, buffer: &mut [u8], signature: &[u8; 64]) -> Result<(), Refusal>
+        ensures number { number_or_zero result ≡ write_check buffer.old self.now.firmware.now self.now.custom.now }
+        ensures bytes { buffer.new ≡ buffer_after buffer.old self.now.fields self.now.firmware.now self.now.custom.now self.now.hint.now signature.now }
+    {
+        self.check_write(buffer)?;
+        let mut draft = Draft { buffer, at: 0 };
+        self.put_covered(&mut draft);
+        let digest = self.digest(draft.written());
+        draft.put_tag(header::DIGEST, &digest);
+        draft.put_tag(header::SIGNATURE, signature);
+        draft.pad();
+        Ok(())
     }
-    let refused = check_fields(firmware, custom);
-    if refused != 0 {
-        return refused;
-    }
-    put_covered(buffer, fields, firmware, custom, hint);
-    let end = 70 + custom.len();
-    let digest = sha256::digest_of_two(&buffer[..end], firmware).bytes;
-    put_rest(buffer, end, &digest, signature);
-    0
 }

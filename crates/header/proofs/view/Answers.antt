@@ -1,19 +1,11 @@
-use mathlib.Core.Path.{◌≡◌, sym, ◌∙◌}
+use mathlib.Core.Path.{sym, ap, ◌∙◌}
 use native.Mathlib.Omega.{arith}
-use Rattle.header.specs.Lookup.{lookup}
-use Rattle.header.specs.declared.tags.Lookup.TheVariants.{Found}
-use Rattle.header.proofs.Lookups.{InHeader, looked_up}
+use Rattle.refusal.specs.Numbers.{numbered}
+use Rattle.header.proofs.Lookups.{looked_up}
 use Rattle.header.proofs.view.Goals as goal
-use Rattle.header.proofs.view.Goals.{After-struct_known-1}
 
-found : (c : After-struct_known-1) → lookup c.args.header.now c.args.kind ≡ Found c.in-Found.t
-found c = sym c.find_tag.ensures ∙ c.in-Found.is
-
-good : (c : After-struct_known-1) → InHeader c.args.header.now c.in-Found.t
-good c = looked_up _ _ (found c)
-
-pub overflow_add-end : goal.overflow_add-end
-overflow_add-end c = omega (arith, good c)
+pub overflow_add-result : goal.overflow_add-result
+overflow_add-result c = omega (arith, looked_up _ _ (sym c.find_tag.ensures ∙ ap numbered c.in-Ok.is))
 
 pub slice_bounds-result-end : goal.slice_bounds-result-end
-slice_bounds-result-end c = omega (arith, good c)
+slice_bounds-result-end c = omega (arith, looked_up _ _ (sym c.find_tag.ensures ∙ ap numbered c.in-Ok.is))

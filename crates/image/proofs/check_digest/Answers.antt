@@ -1,5 +1,6 @@
-use mathlib.Core.Path.{◌≡◌, sym}
+use mathlib.Core.Path.{◌≡◌, refl, sym, ◌∙◌}
 use native.Mathlib.Omega.{arith}
+use Rattle.std.specs.Prelude.{Ok}
 use Rattle.header.specs.Lookup.{view_of}
 use Rattle.header.proofs.Refusals.{firmware-fits}
 use Rattle.compare.specs.Compare.{same}
@@ -8,18 +9,21 @@ use Rattle.image.proofs.Digest.{firmware-is, digest-is}
 use Rattle.image.proofs.check_digest.Goals as goal
 use Rattle.image.proofs.check_digest.Goals.{After-same}
 
-known :
-    (c : After-same) →
-    let i = c.args.image.now in
-    same (view_of i 0x0003) (digest_of i) ≡ c.same.result
-known c =
-    let i = c.args.image.now in
-    let e : c.long_digest_of_two.result.bytes ≡ digest_of i =
-    digest-is i _ _ _ (omega arith) c.covered.ensures (firmware-is i _ c.u32_at.ensures) c.long_digest_of_two.ensures in
-    rw (← e, ← c.view.ensures) (sym c.same.ensures)
-
 pub slice_bounds-long_digest_of_two-end : goal.slice_bounds-long_digest_of_two-end
 slice_bounds-long_digest_of_two-end c = omega (arith, firmware-fits c.args.image.now c.requires)
+
+pub unwrap-digest-requires : goal.unwrap-digest-requires
+unwrap-digest-requires c =
+    let f = firmware-is c.args.image.now _ c.number_at.ensures in
+    rw (digest-is c.args.image.now _ _ _ (omega arith) c.covered.ensures f c.long_digest_of_two.ensures) refl
+
+known : (c : After-same) → same (view_of c.args.image.now 0x0003) (digest_of c.args.image.now) ≡ c.same.result
+known c =
+    let f = firmware-is c.args.image.now _ c.number_at.ensures in
+    let h = digest-is c.args.image.now _ _ _ (omega arith) c.covered.ensures f c.long_digest_of_two.ensures in
+    let e : Ok c.unwrap-digest.result ≡ Ok (digest_of c.args.image.now) = sym c.unwrap-digest.ensures ∙ h in
+    let d : c.unwrap-digest.result ≡ digest_of c.args.image.now = cc in
+    rw (← d, ← c.view.ensures) (sym c.same.ensures)
 
 pub returns-then-same : goal.returns-then-same
 returns-then-same c = rw (known (goal.at.returns-then-same c).After-same, c.if-same.true)

@@ -1,71 +1,52 @@
-use Rattle.std.proofs.Common.{◌≡◌, ◌+◌, ◌-◌, refl, arith}
-use Rattle.loader.specs.Checks.{image_checks}
-use Rattle.runner.proofs.Turns.{due, met_boot, met_refused}
-use Rattle.simulator.proofs.Shown.{on, last, stands, on_err}
+use Prim.Native.Nat.{◌+◌}
+use mathlib.Core.Path.{refl, ap, ◌∙◌}
+use native.Mathlib.Omega.{arith}
+use Rattle.std.specs.Prelude.{Ok}
+use Rattle.loader.specs.Answers.{numbered_answer}
+use Rattle.simulator.proofs.Shown.{on, last, boots, refuses, used_up, stands, on_err}
 use Rattle.simulator.proofs.show_run.Goals as goal
 
-pub returns-in_err-step-in-Step-clause-cut : goal.returns-in_err-step-in-Step-clause-cut
-returns-in_err-step-in-Step-clause-cut g c =
-    let n = c.args.number - c.loop-left.left + 1 in
-    on_err c.from_residual.result (
-      n,
-      (
-        omega arith,
-        stands (on c.loop-left.invariant.came c.advance-done.ensures.0 c.advance-done.ensures.1.0 n refl c.in-Step.is
-            c.advance-done.ensures.1.1 refl refl),
-      ),
-    )
+pub returns-in_err-println-in-Ok-Step-clause-cut : goal.returns-in_err-println-in-Ok-Step-clause-cut
+returns-in_err-println-in-Ok-Step-clause-cut g c =
+    let e = c.advance-done.ensures in
+    let arm = c.in-Ok-Step in
+    let q = ap numbered_answer (arm.is ∙ ap Ok (rw arm.is at arm.field-0-is)) in
+    let n = c.loop.counter + 1 in
+    on_err c.from_residual.result (n, (omega arith, stands (on c.loop.invariant e.0 e.1.0 q e.1.1 refl refl)))
 
-pub loop-left-preserved : goal.loop-left-preserved
-loop-left-preserved g c = record {
-  within = omega (arith, c.loop-left.invariant.within);
-  came = on c.loop-left.invariant.came c.advance-done.ensures.0 c.advance-done.ensures.1.0 _ (omega (arith, c.loop-left.invariant.within))
-      c.in-Step.is c.advance-done.ensures.1.1 c.pick-next.ensures c.pick-b.ensures;
-}
+pub loop-preserved : goal.loop-preserved
+loop-preserved g c =
+    let e = c.advance-done.ensures in
+    let arm = c.in-Ok-Step in
+    let q = ap numbered_answer (arm.is ∙ ap Ok (rw arm.is at arm.field-0-is)) in
+    rw c.turned-signed.ensures (on c.loop.invariant e.0 e.1.0 q e.1.1 refl refl)
 
-pub returns-in_err-step-in-LastStep-clause-cut : goal.returns-in_err-step-in-LastStep-clause-cut
-returns-in_err-step-in-LastStep-clause-cut g c =
-    let n = c.args.number - c.loop-left.left + 1 in
-    on_err c.from_residual-in_err-step-in-LastStep.result (
-      n,
-      (
-        omega arith,
-        (last c.loop-left.invariant.came c.advance-done.ensures.0 c.advance-done.ensures.1.0 c.in-LastStep.is 1 (omega arith)).1,
-      ),
-    )
+pub returns-in_err-println-in-Ok-LastStep-clause-cut : goal.returns-in_err-println-in-Ok-LastStep-clause-cut
+returns-in_err-println-in-Ok-LastStep-clause-cut g c =
+    let e = c.advance-done.ensures in
+    let arm = c.in-Ok-LastStep in
+    let q = ap numbered_answer (arm.is ∙ ap Ok (rw arm.is at arm.field-0-is)) in
+    let n = c.loop.counter + 1 in
+    on_err c.from_residual-in_err-println-in-Ok-LastStep.result (n, (omega arith, (last c.loop.invariant e.0 e.1.0 n (omega arith) q).1))
 
-pub returns-in-LastStep-clause-whole : goal.returns-in-LastStep-clause-whole
-returns-in-LastStep-clause-whole g c =
-    let n : c.args.number - c.loop-left.left + c.loop-left.left ≡ c.args.number = omega (arith, c.loop-left.invariant.within) in
-    let e = last c.loop-left.invariant.came c.advance-done.ensures.0 c.advance-done.ensures.1.0 c.in-LastStep.is c.loop-left.left
-    c.loop-left-test.true in
-    rw n at e
+pub returns-in-Ok-LastStep-clause-whole : goal.returns-in-Ok-LastStep-clause-whole
+returns-in-Ok-LastStep-clause-whole g c =
+    let e = c.advance-done.ensures in
+    let arm = c.in-Ok-LastStep in
+    let q = ap numbered_answer (arm.is ∙ ap Ok (rw arm.is at arm.field-0-is)) in
+    last c.loop.invariant e.0 e.1.0 c.args.number (omega arith) q
 
-pub returns-in-Boot-clause-whole : goal.returns-in-Boot-clause-whole
-returns-in-Boot-clause-whole g c =
-    let n : c.args.number - c.loop-left.left + c.loop-left.left ≡ c.args.number = omega (arith, c.loop-left.invariant.within) in
-    let l = c.loop-left in
-    let e = l.invariant.came.goes_on l.left in
-    rw (
-      met_boot image_checks c.args.g l.left l.a l.b l.flash c.advance-done.ensures.0 c.loop-left-test.true
-          c.advance-done.ensures.1.0 c.in-Boot.is,
-      n,
-    ) at e
+pub returns-in-Ok-Boot-clause-whole : goal.returns-in-Ok-Boot-clause-whole
+returns-in-Ok-Boot-clause-whole g c =
+    let e = c.advance-done.ensures in
+    let arm = c.in-Ok-Boot in
+    let q = ap numbered_answer (arm.is ∙ ap Ok (rw arm.is at arm.field-0-is)) in
+    boots c.loop.invariant e.0 e.1.0 c.args.number (omega arith) q
 
-pub returns-in-Refused-clause-whole : goal.returns-in-Refused-clause-whole
-returns-in-Refused-clause-whole g c =
-    let n : c.args.number - c.loop-left.left + c.loop-left.left ≡ c.args.number = omega (arith, c.loop-left.invariant.within) in
-    let l = c.loop-left in
-    let e = l.invariant.came.goes_on l.left in
-    rw (
-      met_refused image_checks c.args.g l.left l.a l.b l.flash c.advance-done.ensures.0 c.loop-left-test.true
-          c.advance-done.ensures.1.0 c.in-Refused.is,
-      n,
-    ) at e
+pub returns-in-Err-clause-whole : goal.returns-in-Err-clause-whole
+returns-in-Err-clause-whole g c =
+    let e = c.advance-done.ensures in
+    refuses c.loop.invariant e.0 e.1.0 c.args.number (omega arith) (ap numbered_answer c.in-Err.is)
 
 pub returns-clause-whole : goal.returns-clause-whole
-returns-clause-whole g c =
-    let n : c.args.number - c.loop-left.left + c.loop-left.left ≡ c.args.number = omega (arith, c.loop-left.invariant.within) in
-    let l = c.loop-left in
-    let e = l.invariant.came.goes_on l.left in
-    rw (due image_checks c.args.g l.left l.a l.b l.flash c.next_step.ensures (omega arith), n) at e
+returns-clause-whole g c = used_up c.loop.invariant c.next_step.ensures c.args.number (omega arith)

@@ -1,13 +1,12 @@
-use Rattle.std.proofs.Common.{◌≡◌, ◌-◌, ◌≤◌}
+use Rattle.std.proofs.Common.{◌≡◌, ◌-◌, ◌≤◌, None}
 use Rattle.header.specs.Listing.{listing}
-use Rattle.header.specs.declared.tags.Wanted.TheVariants.{Any}
 use Rattle.tags.specs.Listed.{end_of}
 use Rattle.tags.proofs.print_tags.Given as goal
 
 abbrev pub invariant-loop-t : goal.invariant-loop-t
 invariant-loop-t g l = record {
   from : 8 ≤ l.p;
-  same_end : (listing 63 l.header l.p Any).number ≡ end_of l.header;
+  same_end : (listing 63 l.header l.p None).number ≡ end_of l.header;
 }
 
 abbrev pub decreases-loop-t : goal.decreases-loop-t

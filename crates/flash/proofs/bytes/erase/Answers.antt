@@ -1,20 +1,11 @@
-use mathlib.Core.Path.{◌≡◌, refl}
-use native.Mathlib.Omega.{arith}
-use lib.ListN.{length-set}
-use Rattle.flash.specs.Bytes.{blank, overlay}
-use Rattle.flash.proofs.Loops.{erase_turn}
+use mathlib.Core.Path.{◌∙◌, ap}
+use lib.ListN.{replicate}
+use lib.Seq.{length-take-le}
+use Rattle.flash.proofs.Loops.{erased}
 use Rattle.flash.proofs.bytes.erase.Goals as goal
-
-pub loop-i-init : goal.loop-i-init
-unfolding overlay blank
-loop-i-init c = (omega arith, refl, refl)
-
-pub loop-i-preserved : goal.loop-i-preserved
-loop-i-preserved c =
-    let e = c.loop-i.invariant in
-    (omega arith, simp length-set e.1, erase_turn c.args.part.now c.loop-i.i c.loop-i.part (omega arith) e.2)
 
 pub returns : goal.returns
 returns c =
-    let e : c.loop-i.i ≡ c.args.k = omega arith in
-    rw e at c.loop-i.invariant.2
+    let a = c.args in
+    let e = c.fill.ensures.after (λ y h. h) ∙ ap (λ n. replicate n 255) (length-take-le a.k a.part.now c.requires) in
+    erased a.part.now c.fill.new.self a.k e

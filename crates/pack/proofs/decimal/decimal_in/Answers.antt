@@ -1,36 +1,21 @@
-use Prim.Native.Nat.{◌≤◌}
-use mathlib.Core.Path.{◌≡◌, refl, sym, ◌∙◌}
-use native.Mathlib.Omega.{arith}
-use borrow.Author.Tests.{le-ltb}
-use lib.ListN.{length, get_or}
-use lib.Seq.{drop-length}
-use Rattle.pack.specs.Decimal.{decimal_in}
-use Rattle.pack.proofs.Digits.{within, stops, goes_on, ends}
+use Rattle.std.proofs.Common.{◌∙◌, arith}
+use Rattle.pack.proofs.Digits.{no_text, plus, no_number, number}
 use Rattle.pack.proofs.decimal.decimal_in.Goals as goal
 
-pub returns-then-text-eq0 : goal.returns-then-text-eq0
-unfolding decimal_in
-returns-then-text-eq0 c = let h : length c.args.text.now ≤ 0 = omega arith in rw (le-ltb _ _ h)
+pub returns-in_default-clause-value : goal.returns-in_default-clause-value
+returns-in_default-clause-value c = no_text _ _ c.in_default.ensures.cases.0
 
-pub loop-i-init : goal.loop-i-init
-loop-i-init c = (omega arith, refl, omega arith)
+pub returns-then-starts_with-clause-value : goal.returns-then-starts_with-clause-value
+returns-then-starts_with-clause-value c =
+    let sign = c.if-starts_with.ensures.byte (omega arith) (omega arith) (λ w o h. h) in
+    plus _ _ (rw c.in-Ok.ensures.cases.0 at sign)
 
-pub returns-in_default : goal.returns-in_default
-returns-in_default c =
-    let a = c.args in
-    stops a.most c.loop-i.x a.text.now c.loop-i.i (omega arith) c.loop-i.invariant.1 (sym c.with_digit.ensures ∙ c.in_default.is)
+pub returns-in-Ok-parse-clause-value : goal.returns-in-Ok-parse-clause-value
+returns-in-Ok-parse-clause-value c =
+    let sign = c.if-starts_with.ensures.byte (omega arith) (omega arith) (λ w o h. h) in
+    c.then_some.ensures ∙ number _ _ (rw c.in-Ok.ensures.cases.0 at sign) _ (rw c.in-Ok.ensures.cases.0 at c.in-Ok-parse.ensures.value.0)
 
-pub loop-i-preserved : goal.loop-i-preserved
-loop-i-preserved c =
-    let a = c.args in
-    let e = sym c.with_digit.ensures ∙ c.in-Number.is in (
-      omega arith,
-      goes_on a.most c.loop-i.x a.text.now c.loop-i.i (omega arith) c.loop-i.invariant.1 e,
-      within a.most c.loop-i.x (get_or a.text.now c.loop-i.i 0) e,
-    )
-
-pub returns : goal.returns
-returns c =
-    let a = c.args in
-    let e : c.loop-i.i ≡ length a.text.now = omega arith in
-    ends a.most c.loop-i.x a.text.now (omega arith) c.loop-i.invariant.2 (rw (e, drop-length) at c.loop-i.invariant.1)
+pub returns-in-Err-clause-value : goal.returns-in-Err-clause-value
+returns-in-Err-clause-value c =
+    let sign = c.if-starts_with.ensures.byte (omega arith) (omega arith) (λ w o h. h) in
+    no_number _ _ (rw c.in-Ok.ensures.cases.0 at sign) (omega arith) (rw c.in-Ok.ensures.cases.0 at c.in-Err.ensures.value.0)

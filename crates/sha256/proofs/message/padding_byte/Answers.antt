@@ -7,5 +7,5 @@ returns-then-k-eq0 c = mark _ _ c.if-k-eq0.true
 pub returns-then-k-z : goal.returns-then-k-z
 returns-then-k-z c = gap _ _ c.if-k-eq0.false c.if-k-z.true
 
-pub returns : goal.returns
-returns c = count c.args.n c.args.k c.if-k-z.false c.requires.1
+pub returns-else-k-z : goal.returns-else-k-z
+returns-else-k-z c = rw c.to_be_bytes.ensures (count c.args.n c.args.k c.if-k-z.false)

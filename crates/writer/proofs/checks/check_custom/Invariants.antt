@@ -1,6 +1,4 @@
-use Prim.Native.Nat.{◌-◌, ◌≤◌}
-use mathlib.Core.Path.{◌≡◌}
-use lib.ListN.{length}
+use Rattle.std.proofs.Common.{◌≡◌, ◌-◌, ◌≤◌, length}
 use Rattle.writer.specs.Custom.{tags_of, well_formed}
 use Rattle.writer.proofs.Run.{well_formed_from}
 use Rattle.writer.proofs.checks.check_custom.Given as goal

@@ -1,16 +1,17 @@
-use Rattle.std.proofs.Common.{refl, ap, ◌∙◌, add-one, arith, rules}
+use Rattle.std.proofs.Common.{◌≡◌, ◌*◌, ◌/◌, [], length, refl, add-one, arith}
+use Rattle.std.specs.Simd.{first_chunks}
 use Rattle.sha256.specs.Digest.{hashed}
+use Rattle.sha256.proofs.Parsing.{block_of, chunk_at}
 use Rattle.sha256.proofs.hash.Hash.blocks.Goals as goal
 
-pub loop-i-init : goal.loop-i-init
+pub loop-block-init : goal.loop-block-init
 unfolding hashed
-loop-i-init c = (search rules, refl)
+loop-block-init c = refl
 
-pub loop-i-preserved : goal.loop-i-preserved
+pub loop-block-preserved : goal.loop-block-preserved
 unfolding hashed
-loop-i-preserved c = (search rules, rw (add-one, ← c.loop-i.invariant.1) c.block-h.ensures)
-
-pub returns : goal.returns
-returns c =
-    let l = c.loop-i in
-    l.invariant.1 ∙ ap (hashed _ _) (omega arith)
+loop-block-preserved c =
+    let s = c.args.s.now in
+    let i = c.loop-block.block-index in
+    let front : c.as_chunks.result.0.now ≡ first_chunks 64 (length s / 64) s = c.as_chunks.ensures.front in
+    rw add-one (cc (front, chunk_at 64 (length s / 64) i s [] (omega arith), block_of s (64 * i)))

@@ -1,4 +1,0 @@
-use Rattle.board_records.proofs.name.Goals as goal
-
-pub returns : goal.returns
-returns c = rw (c.part.ensures, c.byte_at.ensures)

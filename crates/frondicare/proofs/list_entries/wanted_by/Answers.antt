@@ -1,7 +1,0 @@
-use Rattle.frondicare.proofs.list_entries.wanted_by.Goals as goal
-
-pub returns-then-any : goal.returns-then-any
-returns-then-any c = rw c.if-any.true
-
-pub returns-else-any : goal.returns-else-any
-returns-else-any c = rw c.if-any.false

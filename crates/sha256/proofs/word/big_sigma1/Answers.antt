@@ -1,6 +1,0 @@
-use Rattle.sha256.specs.Words.{Σ₁}
-use Rattle.sha256.proofs.word.big_sigma1.Goals as goal
-
-pub returns : goal.returns
-unfolding Σ₁
-returns c = rw (c.rotr.ensures, c.rotr-2.ensures, c.rotr-3.ensures)
