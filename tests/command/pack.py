@@ -3,6 +3,8 @@
 and for random ones; files that cannot be read; and the stored run of the crate. The seed is printed, and SEED=..
 repeats a run.
 Usage: pack.py COMMAND"""
+import os
+import pty
 import subprocess
 import sys
 import tempfile
@@ -62,6 +64,21 @@ def check_files(command, folder):
     return len(cases) + 1
 
 
+def check_terminal(command, folder):
+    """A firmware that goes on behind its first end, as on a terminal, is too long; one that ends twice is taken."""
+    inputs = Inputs(firmware=b"abc\n")
+    words = arguments(folder, inputs)
+    longer = replace(inputs, firmware=bytes(261889))
+    for then, (output, said) in ((b"\x04", expected(inputs)), (b"d\n\x04\x04", expected(longer))):
+        ours, theirs = pty.openpty()
+        os.write(ours, inputs.firmware + b"\x04" + then)
+        done = run(command, os.ttyname(theirs), *words[1:], timeout=60)
+        assert (done.stdout, done.stderr.decode()) == (output, said), (then, done)
+        os.close(ours)
+        os.close(theirs)
+    return 2
+
+
 def check_stored():
     """What the crate's stored run prints is what the other implementation says of its arguments and files."""
     crate = ROOT / "crates/pack"
@@ -81,7 +98,7 @@ def main():
             seen[compare(command, folder, inputs)] += 1
         assert set(seen) == KINDS, set(seen) ^ KINDS
         check_stored()
-        others = check_files(command, folder)
+        others = check_files(command, folder) + check_terminal(command, folder)
     print(f"packing program: {sum(seen.values())} inputs and {others} other cases passed:", dict(sorted(seen.items())))
 
 

@@ -49,15 +49,9 @@ fn answer(rt: &impl Print, flash: &mut [u8], head: &Head) -> io::Result<()> {
     }
 }
 
-// The same on the case's flash, which is the start of a space: a longer one is cut. G: whether the geometry is accepted.
-fn print_case(rt: &impl Print, case: Case) -> io::Result<()> {
+// The same on the case's flash, which is the start of a space of FF: a longer one is cut.
+fn answer_in(rt: &impl Print, space: &mut [u8], case: Case) -> io::Result<()> {
     let head = case.head;
-    show::label(rt, case.name)?;
-    if head.command == b'G' {
-        let check = flash::check_geometry(head.geometry, head.flash_len);
-        return show::answer(rt, check.map(|()| "OK"));
-    }
-    let mut space = [0xFFu8; 65_536];
     let n = head.flash_len.min(space.len());
     let flash = &mut space[..n];
     let patches = Records {
@@ -68,6 +62,23 @@ fn print_case(rt: &impl Print, case: Case) -> io::Result<()> {
         patch.lay(flash);
     }
     answer(rt, flash, &head)
+}
+
+// In a function of its own: behind the early return of G the space was filled twice, and for G once.
+fn answer_on_flash(rt: &impl Print, case: Case) -> io::Result<()> {
+    let mut space = [0xFFu8; 65_536];
+    answer_in(rt, &mut space, case)
+}
+
+// G: whether the geometry is accepted.
+fn print_case(rt: &impl Print, case: Case) -> io::Result<()> {
+    let head = case.head;
+    show::label(rt, case.name)?;
+    if head.command == b'G' {
+        let check = flash::check_geometry(head.geometry, head.flash_len);
+        return show::answer(rt, check.map(|()| "OK"));
+    }
+    answer_on_flash(rt, case)
 }
 
 fn main(rt: HostRuntime) -> io::Result<()> {

@@ -10,7 +10,7 @@ use Rattle.refusal.specs.Numbers.{numbered}
 use Rattle.refusal.specs.declared.Refusal.{Refusal}
 use Rattle.header.specs.Checks.{size_of}
 use Rattle.header.specs.Lookup.{covered_of}
-use Rattle.sha256.specs.Digest.{longest_of_all, answer_up_to}
+use Rattle.sha256.specs.Digest.{digest, longest_of_all, answer_up_to}
 use Rattle.header.proofs.Lookups.{covered-short}
 use Rattle.sha256.proofs.Answers.{short_enough}
 use Rattle.image.specs.Verdict.{firmware_of, digest_of}
@@ -22,6 +22,17 @@ firmware-is i n e = let m : 256 + n - 256 ≡ size_of i = omega arith in rw m
 is-ok : {A : Type 0} (r : Result A Refusal) (x : A) → numbered r ≡ Ok x → r ≡ Ok x
 is-ok (Ok y) x e = cc
 is-ok (Err d) x e = cc
+
+-- two pieces as long as a header and a firmware may be have a digest, whatever they hold
+pub has_digest :
+    (a b : List ℕ) (r : Result (List ℕ) Refusal) →
+    length a ≤ 256 →
+    length b ≤ 4294967552 →
+    numbered r ≡ answer_up_to longest_of_all (a ++ b) →
+    r ≡ Ok (digest (a ++ b))
+has_digest a b r p q e =
+    let l : length (a ++ b) ≤ longest_of_all = rw (length-append a b) (omega arith) in
+    is-ok r _ (e ∙ short_enough longest_of_all (a ++ b) l)
 
 pub digest-is :
     (i a b : List ℕ) (r : Result (List ℕ) Refusal) →

@@ -14,8 +14,8 @@ ghost use Rattle.std.specs.Prelude.{◌≡◌, replicate, IfOk};
 ghost use Rattle.refusal.specs.Numbers.{number_or_zero};
 ghost use Rattle.writer.specs.Writer.{write_check, buffer_after};
 
-use files::{argument, is_given, read_most, say};
-use input::{read_exact, read_start};
+use files::{argument, is_given, say};
+use input::{read_exact, read_most, read_start};
 use refusal::Refusal;
 use show::Hex;
 use std::env::Env;
@@ -46,7 +46,7 @@ fn print_digest(rt: &(impl Print + Eprint), contents: &Contents<'_>) -> io::Resu
 }
 
 fn print_image<R: Env + Files + Print + Eprint>(rt: &R, contents: &Contents<'_>) -> io::Result<()> {
-    let mut space = [0u8; 65];
+    let mut space = [0u8; 64];
     let wrong = "the signature is not of 64 bytes";
     let Some(signature) = read_exact(rt, 7, &mut space, wrong) else {
         return Ok(());
@@ -61,12 +61,11 @@ fn print_image<R: Env + Files + Print + Eprint>(rt: &R, contents: &Contents<'_>)
     Ok(())
 }
 
-// Each space has a byte more than the most that is taken, so that a longer file is seen. The writer refuses a run that
-// is longer.
+// One byte more than a custom run may have is enough for the writer to refuse it.
 fn pack<R: Env + Files + Print + Eprint>(rt: &R, fields: Fields, signed: bool) -> io::Result<()> {
-    let mut firmware = [0u8; MOST_FIRMWARE + 1];
-    let mut hint = [0u8; 33];
-    let mut custom = [0u8; 84];
+    let mut firmware = [0u8; MOST_FIRMWARE];
+    let mut hint = [0u8; 32];
+    let mut custom = [0u8; 83];
     let too_long = "the firmware is longer than 261888 bytes";
     let Some(firmware) = read_most(rt, 1, &mut firmware, too_long) else {
         return Ok(());

@@ -58,5 +58,6 @@ run_room g len number c = go (eqb (geometry_check g len) 0) (leb number 4096) (r
         → 0 ≡ unless x (geometry_check g len) (unless y 29 (unless z 28 0)) → RoomFor c number
     go true true true p q r e = roomy_for c number r (leb-true number 4096 q)
     go true true false p q r e = absurd (omega arith)
-    go true false z p q r e = absurd (omega arith)
+    go true false true p q r e = absurd (omega arith)
+    go true false false p q r e = absurd (omega arith)
     go false y z p q r e = never (sym (eq-eqb (geometry_check g len) 0 (sym e)) ∙ p)
